@@ -1,0 +1,6 @@
+pub mod Strings
+pub mod Places
+pub mod Totals
+pub mod RowOrder
+pub mod KeyOrder
+pub mod Codes
