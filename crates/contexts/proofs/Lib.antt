@@ -4,3 +4,4 @@ pub mod Totals
 pub mod RowOrder
 pub mod KeyOrder
 pub mod Codes
+pub mod Totalling

@@ -1,0 +1,53 @@
+-- Laws of sums over all strings up to a depth. Assumes nothing.
+use Prim.Native.Nat.{ℕ, zero, suc, _+_, _*_, _≤_, _<_}
+use native.Mathlib.Nat.{le-refl, add-le-add, mul-le-mul}
+use native.Mathlib.Omega.{arith}
+use mathlib.Core.Path.{_≡_, refl, ap₂}
+use mathlib.Core.List.{List, [], _∷_}
+use Rattle.numbers.specs.Sum.{sum}
+use Rattle.numbers.proofs.Sums.{sum-mono, sum-cong, sum-add, sum-zero, sum-same}
+use Rattle.contexts.specs.Strings.{under, total, strings}
+
+pub total-root : (A d : ℕ) (g : List ℕ → ℕ) → g [] ≤ total A d g
+unfolding total
+total-root A zero g = le-refl (g [])
+total-root A (suc d) g = omega arith
+
+pub total-cong : (A d : ℕ) {g h : List ℕ → ℕ} → ((s : List ℕ) → g s ≡ h s) → total A d g ≡ total A d h
+unfolding total
+total-cong A zero e = e []
+total-cong A (suc d) e = ap₂ _+_ (e []) (sum-cong A (λ a l. total-cong A d (λ s. e (a ∷ s))))
+
+pub total-add : (A d : ℕ) (g h : List ℕ → ℕ) → total A d (λ s. g s + h s) ≡ total A d g + total A d h
+unfolding total
+total-add A zero g h = refl
+total-add A (suc d) g h =
+    omega (arith, sum-cong A (λ a l. total-add A d (under a g) (under a h)), sum-add A (λ a. total A d (under a g)) (λ a. total A d (under a h)))
+
+pub total-none : (A d : ℕ) {g : List ℕ → ℕ} → ((s : List ℕ) → g s ≡ 0) → total A d g ≡ 0
+unfolding total
+total-none A zero e = e []
+total-none A (suc d) e = omega (arith, e [], sum-zero A (λ a l. total-none A d (λ s. e (a ∷ s))))
+
+-- where g is 0 but at the empty string
+pub total-only : (A d : ℕ) (g : List ℕ → ℕ) → ((a : ℕ) (s : List ℕ) → g (a ∷ s) ≡ 0) → total A d g ≡ g []
+unfolding total
+total-only A zero g e = refl
+total-only A (suc d) g e = omega (arith, sum-zero A (λ a l. total-none A d (λ s. e a s)))
+
+pub total-mono : (A d : ℕ) {g h : List ℕ → ℕ} → ((s : List ℕ) → g s ≤ h s) → total A d g ≤ total A d h
+unfolding total
+total-mono A zero e = e []
+total-mono A (suc d) e = add-le-add (e []) (sum-mono A (λ a l. total-mono A d (λ s. e (a ∷ s))))
+
+pub total-same : (A d c : ℕ) → total A d (λ s. c) ≡ strings A d * c
+unfolding total strings
+total-same A zero c = omega arith
+total-same A (suc d) c = omega (arith, sum-cong A {f = λ a. total A d (λ s. c)} (λ a l. total-same A d c), sum-same A (strings A d * c))
+
+pub strings-mono : (A B d e : ℕ) → A ≤ B → d ≤ e → strings A d ≤ strings B e
+unfolding strings
+strings-mono A B zero zero p q = le-refl 1
+strings-mono A B zero (suc e) p q = omega arith
+strings-mono A B (suc d) zero p q = absurd (omega arith)
+strings-mono A B (suc d) (suc e) p q = omega (arith, mul-le-mul p (strings-mono A B d e p (omega arith)))
