@@ -1,0 +1,1 @@
+// The records of a store: one dense run, strictly rising in key.
