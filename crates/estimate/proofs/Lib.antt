@@ -1,0 +1,7 @@
+pub mod Integers
+pub mod Loss
+pub mod Least
+pub mod Whole
+pub mod Choice
+pub mod Optimal
+pub mod Unseen

@@ -1,0 +1,4 @@
+pub mod Trees
+pub mod Score
+pub mod Ties
+pub mod Recursion

@@ -1,0 +1,1 @@
+// The joint context tree estimate.
