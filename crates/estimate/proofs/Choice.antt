@@ -86,7 +86,7 @@ separate-loss A d f =
       tree-loss A d (f (own second)),
     )
 
-split-loss : (A d : ℕ) (f : Losses) (h : ℕ → Triple) → loss A (suc d) f (splitBoth A h) ≡ sum A (λ a. loss A d (below a f) (h a))
+pub split-loss : (A d : ℕ) (f : Losses) (h : ℕ → Triple) → loss A (suc d) f (splitBoth A h) ≡ sum A (λ a. loss A d (below a f) (h a))
 unfolding total
 split-loss A d f h = omega (arith, sum-cong A (λ a l. within (ltb a A) (below a f) (h a) (lt→ltb a A l)))
   where

@@ -5,3 +5,6 @@ pub mod Whole
 pub mod Choice
 pub mod Optimal
 pub mod Unseen
+pub mod LeafTies
+pub mod JointTies
+pub mod Unique

@@ -1,11 +1,12 @@
 -- Laws of the logarithm: of any number that meets the rule, and of L. Assumes nothing.
 use mathlib.Core.Path.{_≡_, refl, sym, ap, _∙_, subst}
 use Prim.Native.Nat.{ℕ, zero, suc, _+_, _-_, _*_, _^_, _≤_, _<_, zero-le}
-use native.Mathlib.Nat.{le-refl, le-trans, le-of-eq, le-antisymm, lt-of-le-of-lt, lt-of-not-le, not-le-of-lt, add-assoc, mul-one, mul-mul-mul-comm, mul-le-mul-left, mul-lt-mul-of-pos-left, pow-zero, pow-suc, pow-succ', pow-le-pow-left, one-le-pow}
+use native.Mathlib.Nat.{le-refl, le-trans, le-of-eq, le-antisymm, lt-of-le-of-lt, lt-of-not-le, not-le-of-lt, add-assoc, mul-one, mul-mul-mul-comm, mul-le-mul, mul-le-mul-left, mul-lt-mul-of-pos-left, pow-zero, pow-suc, pow-succ', pow-le-pow-left, one-le-pow}
 use native.Mathlib.Omega.{arith}
 use lib.Pow.{pow-add, pow-pos, pow-mono}
 use lib.Ieee.{size}
 use lib.Ieee.Digits.{size-lt, size-reaches}
+use Rattle.numbers.specs.Limits.{mostCounted, topLog}
 use Rattle.logarithm.specs.Logarithm.{IsLog, L}
 
 -- ---- powers
@@ -78,3 +79,10 @@ L-pow (suc j) =
 
 pub L-bound : (j n : ℕ) → n ≤ 2 ^ j → L n ≤ 1024 * j
 L-bound j n h = le-trans (L-mono n (2 ^ j) h) (le-of-eq (L-pow j))
+
+pub L-top : (n : ℕ) → n ≤ mostCounted → L n ≤ topLog
+L-top n h = L-bound 10 n h
+
+-- a number times its logarithm
+pub weight-top : (n : ℕ) → n ≤ mostCounted → n * L n ≤ mostCounted * topLog
+weight-top n h = mul-le-mul h (L-top n h)

@@ -20,6 +20,10 @@ longest = 512
 abbrev pub mostCounted : ℕ
 mostCounted = 1024
 
+-- .. and is at most L(1024)
+abbrev pub topLog : ℕ
+topLog = 10240
+
 -- desks 0 to 7
 abbrev pub desks : ℕ
 desks = 8
