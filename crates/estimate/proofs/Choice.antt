@@ -23,28 +23,28 @@ module _
     (shared-leaf : (d : ℕ) (f : Losses) → f shared [] ≤ joint A d f → P d f sharedLeaf)
     (two-trees : (d : ℕ) (f : Losses) → joint A d f < f shared [] → separate A d f ≤ joint A d f → P d f (separateTrees (λ i. tree A d (f (own i)))))
     (both-split : (d : ℕ) (f : Losses) → joint A (suc d) f < f shared [] → joint A (suc d) f < separate A (suc d) f
-        → ((a : ℕ) → P d (below a f) (estimate A d (below a f))) → P (suc d) f (splitBoth A (λ a. estimate A d (below a f))))
-    where
-  pub by-choice : (d : ℕ) (f : Losses) → P d f (estimate A d f)
-  unfolding estimate joint
-  by-choice zero f = go (leb (f shared []) (separate A zero f)) (lebView (f shared []) (separate A zero f))
-    where
-      go : (b : Bool) → Leb (f shared []) (separate A zero f) b → P zero f (cond b sharedLeaf (separateTrees (λ i. tree A zero (f (own i)))))
-      go b (le p) = shared-leaf zero f (omega arith)
-      go b (gt p) = two-trees zero f (omega arith) (omega arith)
-  by-choice (suc d) f =
-      go (leb (f shared []) (min (separate A (suc d) f) part)) (lebView (f shared []) (min (separate A (suc d) f) part))
-      (leb (separate A (suc d) f) part) (lebView (separate A (suc d) f) part) (λ a. by-choice d (below a f))
-    where
-      part : ℕ
-      part = sum A (λ a. joint A d (below a f))
+    → ((a : ℕ) → P d (below a f) (estimate A d (below a f))) → P (suc d) f (splitBoth A (λ a. estimate A d (below a f))))
+  where
+    pub by-choice : (d : ℕ) (f : Losses) → P d f (estimate A d f)
+    unfolding estimate joint
+    by-choice zero f = go (leb (f shared []) (separate A zero f)) (lebView (f shared []) (separate A zero f))
+      where
+        go : (b : Bool) → Leb (f shared []) (separate A zero f) b → P zero f (cond b sharedLeaf (separateTrees (λ i. tree A zero (f (own i)))))
+        go b (le p) = shared-leaf zero f (omega arith)
+        go b (gt p) = two-trees zero f (omega arith) (omega arith)
+    by-choice (suc d) f =
+        go (leb (f shared []) (min (separate A (suc d) f) part)) (lebView (f shared []) (min (separate A (suc d) f) part))
+        (leb (separate A (suc d) f) part) (lebView (separate A (suc d) f) part) (λ a. by-choice d (below a f))
+      where
+        part : ℕ
+        part = sum A (λ a. joint A d (below a f))
 
-      go : (b : Bool) → Leb (f shared []) (min (separate A (suc d) f) part) b → (c : Bool) → Leb (separate A (suc d) f) part c
-          → ((a : ℕ) → P d (below a f) (estimate A d (below a f)))
-          → P (suc d) f (cond b sharedLeaf (cond c (separateTrees (λ i. tree A (suc d) (f (own i)))) (splitBoth A (λ a. estimate A d (below a f)))))
-      go b (le p) c v ih = shared-leaf (suc d) f (omega arith)
-      go b (gt p) c (le q) ih = two-trees (suc d) f (omega arith) (omega arith)
-      go b (gt p) c (gt q) ih = both-split d f (omega arith) (omega arith) ih
+        go : (b : Bool) → Leb (f shared []) (min (separate A (suc d) f) part) b → (c : Bool) → Leb (separate A (suc d) f) part c
+            → ((a : ℕ) → P d (below a f) (estimate A d (below a f)))
+            → P (suc d) f (cond b sharedLeaf (cond c (separateTrees (λ i. tree A (suc d) (f (own i)))) (splitBoth A (λ a. estimate A d (below a f)))))
+        go b (le p) c v ih = shared-leaf (suc d) f (omega arith)
+        go b (gt p) c (le q) ih = two-trees (suc d) f (omega arith) (omega arith)
+        go b (gt p) c (gt q) ih = both-split d f (omega arith) (omega arith) ih
 
 -- ---- it is admissible
 

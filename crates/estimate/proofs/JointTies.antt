@@ -38,15 +38,15 @@ joint-rule A d f =
     by-choice A Rule
     (λ d f h q. record { shared-first = λ m. refl; separate-next = λ g c m. inl refl })
     (λ d f h k q.
-      record {
-        shared-first = λ m. absurd (no-leaf A d f (separateTrees (λ i. tree A d (f (own i)))) q h m);
-        separate-next = λ g c m. inr (λ s n. n);
-      })
+    record {
+      shared-first = λ m. absurd (no-leaf A d f (separateTrees (λ i. tree A d (f (own i)))) q h m);
+      separate-next = λ g c m. inr (λ s n. n);
+    })
     (λ d f h k ih q.
-      record {
-        shared-first = λ m. absurd (no-leaf A (suc d) f (splitBoth A (λ a. estimate A d (below a f))) q h m);
-        separate-next = λ g c m. absurd (no-trees A (suc d) f (splitBoth A (λ a. estimate A d (below a f))) q k g c m);
-      })
+    record {
+      shared-first = λ m. absurd (no-leaf A (suc d) f (splitBoth A (λ a. estimate A d (below a f))) q h m);
+      separate-next = λ g c m. absurd (no-trees A (suc d) f (splitBoth A (λ a. estimate A d (below a f))) q k g c m);
+    })
     d f (estimate-loss A d f)
   where
     Rule : ℕ → Losses → Triple → Type 0

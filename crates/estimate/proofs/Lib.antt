@@ -8,3 +8,5 @@ pub mod Unseen
 pub mod LeafTies
 pub mod JointTies
 pub mod Unique
+pub mod Spreads
+pub mod Tables

@@ -83,7 +83,7 @@ module _ (A d : ℕ) (f : Losses) (t : Triple) (c : Admissible A (suc d) t) (l :
   child-keeps r a m = record {
     joint = λ s e x q g. r .joint (a ∷ s) e (context-cons A d a s m x) (omega arith) (no-root, some-shared, g);
     separate = λ i s e x q g n.
-      r .separate i (a ∷ s) e (context-cons A d a s m x) (omega arith) ((λ y. no-root (own i) (or-rest (t shared []) (t (own i) []) y (no-root shared))), g) n;
+        r .separate i (a ∷ s) e (context-cons A d a s m x) (omega arith) ((λ y. no-root (own i) (or-rest (t shared []) (t (own i) []) y (no-root shared))), g) n;
   }
 
   is-split : (g : ℕ → Triple) → ((a : ℕ) → a < A → below a t ≡ g a) → t ≡ splitBoth A g
@@ -100,8 +100,8 @@ estimate-unique A D f t p =
     (λ d f h t c l r. is-leaf A d f t p c l r h)
     (λ d f h k t c l r. are-trees A d f t p c l r h k)
     (λ d f h k ih t c l r.
-      is-split A d f t c l h k (λ a. estimate A d (below a f))
-      (λ a m. ih a (below a t) (child-admissible c (no-root A d f t c l h k) a m) (child-low A d f t c l h k a m) (child-keeps A d f t c l h k r a m)))
+    is-split A d f t c l h k (λ a. estimate A d (below a f))
+    (λ a m. ih a (below a t) (child-admissible c (no-root A d f t c l h k) a m) (child-low A d f t c l h k a m) (child-keeps A d f t c l h k r a m)))
     D f t
   where
     Part : ℕ → Losses → Triple → Type 0
@@ -127,5 +127,5 @@ only-estimate x t p b r =
           arith,
           estimate-loss A D f,
           less-loss A D f (estimate A D f) t
-          (subst (λ (w : Worths). score A D w (estimate A D f) ≤ℤ score A D w t) (worths-losses x) (b .most (estimate A D f) (estimate-admissible A D f p))),
+              (subst (λ (w : Worths). score A D w (estimate A D f) ≤ℤ score A D w t) (worths-losses x) (b .most (estimate A D f) (estimate-admissible A D f p))),
         )

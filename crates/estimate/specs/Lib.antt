@@ -2,3 +2,4 @@ pub mod Trees
 pub mod Score
 pub mod Ties
 pub mod Recursion
+pub mod Table

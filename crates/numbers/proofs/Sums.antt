@@ -2,6 +2,7 @@
 use Prim.Native.Nat.{ℕ, zero, suc, _+_, _*_, _≤_, _<_}
 use native.Mathlib.Nat.{le-refl, le-suc, le-trans, add-le-add}
 use native.Mathlib.Omega.{arith}
+use native.Mathlib.Numerals.{add-one}
 use mathlib.Core.Path.{_≡_, refl, sym, ap₂}
 use mathlib.Core.Bool.{Bool, _&&_, and-true, and-false}
 use lib.Dec.{eqb}
@@ -33,6 +34,20 @@ pub sum-same : (n c : ℕ) → sum n (λ a. c) ≡ n * c
 unfolding sum
 sum-same zero c = omega arith
 sum-same (suc n) c = omega (arith, sum-same n c)
+
+-- one number more, as a loop adds it
+pub sum-next : (n : ℕ) (f : ℕ → ℕ) → sum (n + 1) f ≡ sum n f + f n
+unfolding sum
+sum-next n f = rw add-one
+
+pub sum-longer : (m n : ℕ) (f : ℕ → ℕ) → m ≤ n → sum m f ≤ sum n f
+unfolding sum
+sum-longer m zero f l = let e : m ≡ 0 = omega arith in rw e (le-refl 0)
+sum-longer m (suc n) f l = elim (order m (suc n)) [
+  | less o ↦ omega (arith, sum-longer m n f (omega arith))
+  | same e ↦ rw e (le-refl (sum n f + f n))
+  | more o ↦ absurd (omega arith)
+]
 
 -- a part is at most the whole
 pub sum-part : (n : ℕ) (f : ℕ → ℕ) (a : ℕ) → a < n → f a ≤ sum n f

@@ -1,0 +1,77 @@
+-- Tables of two samples by eight symbols: their sums, and that the losses worked out of a sitting's table are the sitting's. Assumes nothing.
+use Prim.Native.Nat.{ℕ, zero, suc, _+_, _≤_, _<_}
+use native.Mathlib.Omega.{arith}
+use mathlib.Core.Path.{_≡_, refl, ap, ap₂, _∙_}
+use mathlib.Core.List.{List}
+use lib.ListN.{getD}
+use Rattle.numbers.specs.Limits.{mostSymbols}
+use Rattle.numbers.specs.Sum.{sum}
+use Rattle.numbers.proofs.Sums.{sum-add, sum-cong}
+use Rattle.contexts.specs.Sitting.{Sample, first, second, Sitting, eight, table}
+use Rattle.estimate.specs.Trees.{Kind, shared, own}
+use Rattle.estimate.specs.Score.{ofKind, counts, sizeOf, cost}
+use Rattle.estimate.specs.Recursion.{spread, losses}
+use Rattle.estimate.specs.Table.{rowIn, countsIn, sumOf, CostsOf, LossesOf}
+use Rattle.estimate.specs.declared.ByKind.{ByKind}
+use Rattle.estimate.proofs.Spreads.{spread-cong, spread-past}
+
+pub eight-at : (c : ℕ → ℕ) (a : ℕ) → a < mostSymbols → getD (eight c) a 0 ≡ c a
+eight-at c zero l = refl
+eight-at c (suc zero) l = refl
+eight-at c (suc (suc zero)) l = refl
+eight-at c (suc (suc (suc zero))) l = refl
+eight-at c (suc (suc (suc (suc zero)))) l = refl
+eight-at c (suc (suc (suc (suc (suc zero))))) l = refl
+eight-at c (suc (suc (suc (suc (suc (suc zero)))))) l = refl
+eight-at c (suc (suc (suc (suc (suc (suc (suc zero))))))) l = refl
+eight-at c (suc (suc (suc (suc (suc (suc (suc (suc a)))))))) l = absurd (omega arith)
+
+-- the added counts add up to both samples' sums
+pub sum-shared : (t : List (List ℕ)) → sum mostSymbols (countsIn t shared) ≡ sumOf (rowIn t first) + sumOf (rowIn t second)
+sum-shared t = sum-add mostSymbols (λ a. getD (rowIn t first) a 0) (λ a. getD (rowIn t second) a 0)
+
+pub sum-eight : (c : ℕ → ℕ) → sumOf (eight c) ≡ sum mostSymbols c
+sum-eight c = sum-cong mostSymbols (eight-at c)
+
+pub spread-eight : (c : ℕ → ℕ) → spread mostSymbols (λ a. getD (eight c) a 0) ≡ spread mostSymbols c
+spread-eight c = spread-cong mostSymbols (eight-at c)
+
+-- ---- of a sitting's table
+
+kind-cong : (k : Kind) {g h : Sample → ℕ} → ((i : Sample) → g i ≡ h i) → ofKind k g ≡ ofKind k h
+kind-cong shared e = ap₂ _+_ (e first) (e second)
+kind-cong (own i) e = e i
+
+pub table-counts : (x : Sitting) (s : List ℕ) (k : Kind) (a : ℕ) → a < mostSymbols → countsIn (table x s) k a ≡ counts x k s a
+table-counts x s k a l = kind-cong k row
+  where
+    row : (i : Sample) → getD (rowIn (table x s) i) a 0 ≡ x .count i s a
+    row first = eight-at (x .count first s) a l
+    row second = eight-at (x .count second s) a l
+
+-- the counts of a kind are 0 where both samples' are
+pub kind-none : (x : Sitting) (k : Kind) (s : List ℕ) (a : ℕ) → ((i : Sample) → x .count i s a ≡ 0) → counts x k s a ≡ 0
+kind-none x shared s a e = omega (arith, e first, e second)
+kind-none x (own i) s a e = e i
+
+-- a number for each kind, as the code has them
+abbrev pub at : ByKind → Kind → ℕ
+at b shared = b .shared
+at b (own first) = b .first
+at b (own second) = b .second
+
+-- THEOREM. The code's losses of a context's table are the model's
+pub table-losses : (x : Sitting) (s : List ℕ) (costs r : ByKind) → x .symbols ≤ mostSymbols → ((i : Sample) (a : ℕ) → x .symbols ≤ a → x .count i s a ≡ 0)
+    → CostsOf (x .symbols) (x .size first) (x .size second) costs → LossesOf (table x s) costs r → (k : Kind) → at r k ≡ losses x k s
+table-losses x s costs r few none p l k =
+    each k ∙ ap₂ _+_ (price k) (spread-cong mostSymbols (table-counts x s k) ∙ spread-past (x .symbols) mostSymbols (counts x k s) few (λ a h. kind-none x k s a (λ i. none i a h)))
+  where
+    price : (k : Kind) → at costs k ≡ cost (x .symbols) (sizeOf x k)
+    price shared = p .shared
+    price (own first) = p .first
+    price (own second) = p .second
+
+    each : (k : Kind) → at r k ≡ at costs k + spread mostSymbols (countsIn (table x s) k)
+    each shared = l .shared
+    each (own first) = l .first
+    each (own second) = l .second
