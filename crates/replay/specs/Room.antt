@@ -32,6 +32,10 @@ unfoldable pub reserved : {State : Type 0} → Desk State → ℕ
 reserved closed = 0
 reserved (opened o s) = o .reserve
 
+-- "the reservations of the open sittings"
+abbrev pub reservations : {State : Type 0} → Room State → ℕ
+reservations ρ = sum desks (λ d. reserved (ρ .at d))
+
 -- "Room left is K less the reservations of the open sittings"
 unfoldable pub left : {State : Type 0} → Room State → ℕ
-left ρ = ρ .made - sum desks (λ d. reserved (ρ .at d))
+left ρ = ρ .made - reservations ρ
