@@ -5,3 +5,8 @@ pub mod Swap
 pub mod Clean
 pub mod Runs
 pub mod Replay
+pub mod Order
+pub mod Reservations
+pub mod Own
+pub mod Reached
+pub mod RealRuns

@@ -63,6 +63,6 @@ module _ (R : Rules) where
   pub record AnsweredAlone (gs : List (Course R)) (d : ℕ) (q : R .Ask) (a : R .Answer) : Type 0 where
     pub named : Opening
     pub state : R .State
-    pub opened : OpenAlone gs d named state
+    pub own : OpenAlone gs d named state
     pub accepted : NoneApplies (R .lines named state q)
     pub answer : R .answer named state q ≡ a
