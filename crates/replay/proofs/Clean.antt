@@ -6,10 +6,10 @@ use mathlib.Core.List.{List, [], _∷_, _++_}
 use lib.Dec.{eqb}
 use Rattle.replay.specs.Room.{Room}
 use Rattle.replay.specs.Table.{answered}
-use Rattle.replay.specs.Machine.{Rules, Call, verdict, shift, move}
+use Rattle.replay.specs.Machine.{Rules, opens, Call, verdict, shift, move}
 use Rattle.replay.specs.Serial.{outcomes, after, Done, called, calls, answers}
 use Rattle.replay.proofs.Refusals.{answered-shifts}
-use Rattle.replay.proofs.Swap.{opens, swap-first, swap-second, swap-room}
+use Rattle.replay.proofs.Swap.{swap-first, swap-second, swap-room}
 
 module _ (R : Rules) where
   -- the calls are accepted one after the other, with these answers

@@ -10,3 +10,4 @@ pub mod Reservations
 pub mod Own
 pub mod Reached
 pub mod RealRuns
+pub mod Example

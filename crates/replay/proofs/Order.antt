@@ -5,8 +5,8 @@ use mathlib.Core.Bool.{Bool, true, false, cond}
 use mathlib.Core.List.{List, [], _∷_, _++_, map, append-nil, append-assoc, Perm, Perm·refl, Perm·trans, Perm·symm, Perm·append-left, Perm·append-right, perm-append-singleton}
 use lib.Dec.{eqb}
 use borrow.Author.Tests.{eqb-true}
-use Rattle.replay.specs.Machine.{Rules, Act, opening, asking, closing}
-use Rattle.replay.specs.Serial.{Done, Told, Course, doneAt, played, begun, grown, joined, entered, sittings, oldestFirst, serial, callsAt}
+use Rattle.replay.specs.Machine.{Rules, Act, opening, asking, closing, opens}
+use Rattle.replay.specs.Serial.{Done, Told, Course, doneAt, played, begun, grown, joined, entered, sittings, oldestFirst, serial, those, callsAt, openings}
 use Rattle.replay.proofs.Replay.{played-grown}
 
 -- ---- nothing is lost or doubled
@@ -46,64 +46,71 @@ module _ (R : Rules) where
   unfolding serial oldestFirst
   nothing-lost xs = sittings-same xs []
 
--- ---- each desk's order is kept
+-- ---- the order that is kept
 
-module _ (R : Rules) (d : ℕ) where
-  at-append : (xs ys : List (Done R)) → callsAt R d (xs ++ ys) ≡ callsAt R d xs ++ callsAt R d ys
-  unfolding callsAt
-  at-append [] ys = refl
-  at-append (x ∷ xs) ys = go (eqb (x .desk) d) (at-append xs ys)
+-- Calls that pass a test keep their order, if a call that is no opening may go before the calls of a sitting at another desk.
+module _ (R : Rules) (p : Done R → Bool)
+    (either : (x : Done R) (g : Course R) → opens R (x .act) ≡ false → eqb (g .desk) (x .desk) ≡ false
+    → those R p (x ∷ []) ++ those R p (played R g) ≡ those R p (played R g) ++ those R p (x ∷ [])) where
+  those-append : (xs ys : List (Done R)) → those R p (xs ++ ys) ≡ those R p xs ++ those R p ys
+  unfolding those
+  those-append [] ys = refl
+  those-append (x ∷ xs) ys = go (p x) (those-append xs ys)
     where
-      go : (b : Bool) → callsAt R d (xs ++ ys) ≡ callsAt R d xs ++ callsAt R d ys
-          → cond b (x ∷ callsAt R d (xs ++ ys)) (callsAt R d (xs ++ ys)) ≡ cond b (x ∷ callsAt R d xs) (callsAt R d xs) ++ callsAt R d ys
+      go : (b : Bool) → those R p (xs ++ ys) ≡ those R p xs ++ those R p ys
+          → cond b (x ∷ those R p (xs ++ ys)) (those R p (xs ++ ys)) ≡ cond b (x ∷ those R p xs) (those R p xs) ++ those R p ys
       go true h = ap (x ∷_) h
       go false h = h
 
-  -- a sitting at another desk has no call here
-  none-here : (e : ℕ) → eqb e d ≡ false → (ts : List (Told R)) → callsAt R d (map (doneAt R e) ts) ≡ []
-  unfolding callsAt
-  none-here e h [] = refl
-  none-here e h (t ∷ ts) = rw h (none-here e h ts)
-
-  -- of a call and a sitting at another desk, one has none of this desk's
-  either : (x : Done R) (g : Course R) → eqb (g .desk) (x .desk) ≡ false
-      → callsAt R d (x ∷ []) ++ callsAt R d (played R g) ≡ callsAt R d (played R g) ++ callsAt R d (x ∷ [])
-  unfolding played callsAt
-  either x g apart = go (eqb (x .desk) d) refl
-    where
-      go : (b : Bool) → eqb (x .desk) d ≡ b
-          → cond b (x ∷ []) [] ++ callsAt R d (map (doneAt R (g .desk)) (g .told)) ≡ callsAt R d (map (doneAt R (g .desk)) (g .told)) ++ cond b (x ∷ []) []
-      go true p =
-          let away : eqb (g .desk) d ≡ false = rw (← (eqb-true (x .desk) d p)) apart in
-          rw (none-here (g .desk) away (g .told))
-      go false p = sym (append-nil _)
-
-  joined-order : (x : Done R) (gs : List (Course R)) → callsAt R d (oldestFirst R (joined R x gs)) ≡ callsAt R d (oldestFirst R gs ++ x ∷ [])
+  joined-order : (x : Done R) → opens R (x .act) ≡ false → (gs : List (Course R)) → those R p (oldestFirst R (joined R x gs)) ≡ those R p (oldestFirst R gs ++ x ∷ [])
   unfolding oldestFirst joined played
-  joined-order x [] = refl
-  joined-order x (g ∷ gs) = go (eqb (g .desk) (x .desk)) refl (joined-order x gs)
+  joined-order x n [] = refl
+  joined-order x n (g ∷ gs) = go (eqb (g .desk) (x .desk)) refl (joined-order x n gs)
     where
-      go : (b : Bool) → eqb (g .desk) (x .desk) ≡ b → callsAt R d (oldestFirst R (joined R x gs)) ≡ callsAt R d (oldestFirst R gs ++ x ∷ [])
-          → callsAt R d (oldestFirst R (cond b (grown R g x ∷ gs) (g ∷ joined R x gs))) ≡ callsAt R d (oldestFirst R gs ++ played R g ++ x ∷ [])
-      go true p h = rw (played-grown R g x (eqb-true (g .desk) (x .desk) p), append-assoc)
-      go false p h = simp (at-append, h, append-assoc, either x g p)
+      go : (b : Bool) → eqb (g .desk) (x .desk) ≡ b → those R p (oldestFirst R (joined R x gs)) ≡ those R p (oldestFirst R gs ++ x ∷ [])
+          → those R p (oldestFirst R (cond b (grown R g x ∷ gs) (g ∷ joined R x gs))) ≡ those R p (oldestFirst R gs ++ played R g ++ x ∷ [])
+      go true e h = rw (played-grown R g x (eqb-true (g .desk) (x .desk) e), append-assoc)
+      go false e h = simp (those-append, h, append-assoc, either x g n e)
 
-  entered-order : (x : Done R) (gs : List (Course R)) → callsAt R d (oldestFirst R (entered R (x .act) x gs)) ≡ callsAt R d (oldestFirst R gs ++ x ∷ [])
+  entered-order : (x : Done R) (gs : List (Course R)) → those R p (oldestFirst R (entered R (x .act) x gs)) ≡ those R p (oldestFirst R gs ++ x ∷ [])
   unfolding entered oldestFirst played
-  entered-order x gs = go (x .act)
+  entered-order x gs = go (x .act) refl
     where
-      go : (a : Act R) → callsAt R d (oldestFirst R (entered R a x gs)) ≡ callsAt R d (oldestFirst R gs ++ x ∷ [])
-      go (opening o) = refl
-      go (asking q) = joined-order x gs
-      go closing = joined-order x gs
+      go : (a : Act R) → x .act ≡ a → those R p (oldestFirst R (entered R a x gs)) ≡ those R p (oldestFirst R gs ++ x ∷ [])
+      go (opening o) e = refl
+      go (asking q) e = joined-order x (ap (opens R) e) gs
+      go closing e = joined-order x (ap (opens R) e) gs
 
-  sittings-order : (xs : List (Done R)) (gs : List (Course R)) → callsAt R d (oldestFirst R (sittings R gs xs)) ≡ callsAt R d (oldestFirst R gs ++ xs)
+  sittings-order : (xs : List (Done R)) (gs : List (Course R)) → those R p (oldestFirst R (sittings R gs xs)) ≡ those R p (oldestFirst R gs ++ xs)
   unfolding sittings
   sittings-order [] gs = rw append-nil
   sittings-order (x ∷ xs) gs = sittings-order xs (entered R (x .act) x gs)
-      ∙ simp (at-append, entered-order x gs, append-assoc) (ap (callsAt R d (oldestFirst R gs) ++_) (sym (at-append (x ∷ []) xs)))
+      ∙ simp (those-append, entered-order x gs, append-assoc) (ap (those R p (oldestFirst R gs) ++_) (sym (those-append (x ∷ []) xs)))
+
+  serial-order : (xs : List (Done R)) → those R p (serial R xs) ≡ those R p xs
+  unfolding serial oldestFirst
+  serial-order xs = sittings-order xs []
+
+module _ (R : Rules) where
+  -- a sitting at another desk has no call here
+  none-here : (d e : ℕ) → eqb e d ≡ false → (ts : List (Told R)) → callsAt R d (map (doneAt R e) ts) ≡ []
+  unfolding those
+  none-here d e h [] = refl
+  none-here d e h (t ∷ ts) = rw h (none-here d e h ts)
 
   -- each desk has the same calls in the same order
-  pub order-kept : (xs : List (Done R)) → callsAt R d (serial R xs) ≡ callsAt R d xs
-  unfolding serial oldestFirst
-  order-kept xs = sittings-order xs []
+  pub order-kept : (d : ℕ) (xs : List (Done R)) → callsAt R d (serial R xs) ≡ callsAt R d xs
+  unfolding played those
+  order-kept d = serial-order R (λ x. eqb (x .desk) d) (λ x g n apart. go x g apart (eqb (x .desk) d) refl)
+    where
+      go : (x : Done R) (g : Course R) → eqb (g .desk) (x .desk) ≡ false → (b : Bool) → eqb (x .desk) d ≡ b
+          → cond b (x ∷ []) [] ++ callsAt R d (map (doneAt R (g .desk)) (g .told)) ≡ callsAt R d (map (doneAt R (g .desk)) (g .told)) ++ cond b (x ∷ []) []
+      go x g apart true e =
+          let away : eqb (g .desk) d ≡ false = rw (← (eqb-true (x .desk) d e)) apart in
+          rw (none-here d (g .desk) away (g .told))
+      go x g apart false e = sym (append-nil _)
+
+  -- the openings stand in their order: one sitting after another in order of opening
+  pub openings-kept : (xs : List (Done R)) → openings R (serial R xs) ≡ openings R xs
+  unfolding those
+  openings-kept = serial-order R (λ x. opens R (x .act)) (λ x g n apart. rw n (sym (append-nil _)))

@@ -9,11 +9,11 @@ use lib.Dec.{eqb}
 use borrow.Author.Tests.{eqb-true}
 use Rattle.replay.specs.Room.{Making, Opening, Desk, closed, opened, Room, new}
 use Rattle.replay.specs.Table.{answered, NoneApplies}
-use Rattle.replay.specs.Machine.{Rules, Spare, spare, isOpen, Act, opening, asking, closing, Call, atDesk, openingTable, ownLines, askingTable, closingTable, tableAt, answerAt, verdict, moved, shift}
+use Rattle.replay.specs.Machine.{Rules, opens, Spare, spare, isOpen, Act, opening, asking, closing, Call, atDesk, openingTable, ownLines, askingTable, closingTable, tableAt, answerAt, verdict, moved, shift}
 use Rattle.replay.specs.Serial.{outcomes, after, Done, called, struck, Told, Course, tell, begun, grown, joined, entered, sittings}
 use Rattle.replay.specs.Alone.{Alone, begins, goes-on, ends, latest, Stands, EachAlone, OnTheirOwn, asks, reached, OpenAlone, AnsweredAlone}
 use Rattle.replay.proofs.Desks.{apart-sym}
-use Rattle.replay.proofs.Swap.{opens, heard, shift-here, shift-away}
+use Rattle.replay.proofs.Swap.{heard, shift-here, shift-away}
 use Rattle.replay.proofs.Reservations.{shut}
 use Rattle.replay.proofs.Runs.{run-keeps}
 

@@ -12,6 +12,12 @@ use Rattle.replay.proofs.Replay.{replay}
 use Rattle.replay.proofs.Reached.{open-alone, answered-alone}
 
 module _ (R : Rules) (Store : Type 0) (𝓒 : Contracts R Store) where
+  -- two results that the contracts allow for one call have the same answer and the same meaning
+  pub settled : (σ τ τ′ : Store) (c : Call R) (o o′ : Outcome (R .Answer)) → 𝓒 .Sound σ → 𝓒 .Does σ c o τ → 𝓒 .Does σ c o′ τ′
+      → (o ≡ o′) × (𝓒 .meaning τ ≡ 𝓒 .meaning τ′)
+  settled σ τ τ′ c o o′ s d e =
+      (𝓒 .answers σ τ c o s d ∙ sym (𝓒 .answers σ τ′ c o′ s e), 𝓒 .leaves σ τ c o s d ∙ sym (𝓒 .leaves σ τ′ c o′ s e))
+
   -- a store stays sound along a run
   pub runs-sound : {σ τ : Store} {cs : List (Call R)} {os : List (Outcome (R .Answer))} → 𝓒 .Sound σ → Runs R Store 𝓒 σ cs os τ → 𝓒 .Sound τ
   runs-sound s stop = s
@@ -60,3 +66,10 @@ module _ (R : Rules) (Store : Type 0) (𝓒 : Contracts R Store) where
     -- the two stores stand for the same open sittings and the same room
     pub real-room : 𝓒 .meaning τ′ ≡ 𝓒 .meaning τ
     real-room = made-leaves K σ′ τ′ _ os′ made′ again ∙ rw (made-answers K σ τ cs os made run) (replay R K cs .same) ∙ sym (made-leaves K σ τ cs os made run)
+
+    -- so every further call answers alike on both
+    pub real-next : (υ υ′ : Store) (c : Call R) (o o′ : Outcome (R .Answer)) → 𝓒 .Does τ c o υ → 𝓒 .Does τ′ c o′ υ′ → o′ ≡ o
+    real-next υ υ′ c o o′ does does′ =
+        𝓒 .answers τ′ υ′ c o′ (runs-sound (made′ .sound) again) does′
+        ∙ ap (λ m. verdict R m c) real-room
+        ∙ sym (𝓒 .answers τ υ c o (runs-sound (made .sound) run) does)

@@ -5,7 +5,7 @@ use mathlib.Core.Path.{_≡_, refl}
 use mathlib.Core.Logic.{_↔_}
 use lib.Dec.{T}
 use Rattle.replay.specs.Room.{Opening, Desk, closed, opened, Room, left}
-use Rattle.replay.specs.Table.{Line, answered, refused, verdictOf, NoneApplies, First, rises}
+use Rattle.replay.specs.Table.{Outcome, answered, refused, verdictOf, NoneApplies, First, rises}
 use Rattle.replay.specs.Machine.{Rules, Act, opening, asking, closing, Call, atDesk, roomQuestion, openingTable, ownLines, askingTable, closingTable, tableAt, tableOf, answerOf, verdict, shift, settle, move}
 use Rattle.replay.proofs.Tables.{refused-exactly, answered-exactly, answers-none}
 
@@ -52,5 +52,9 @@ module _ (R : Rules) where
   question-answers ρ = refl
 
   pub question-stays : (ρ : Room (R .State)) → move R ρ roomQuestion ≡ ρ
-  unfolding move settle verdict verdictOf tableOf shift
-  question-stays ρ = refl
+  unfolding move shift settle
+  question-stays ρ = go (verdict R ρ roomQuestion)
+    where
+      go : (o : Outcome (R .Answer)) → settle o ρ ρ ≡ ρ
+      go (refused n) = refl
+      go (answered a) = refl

@@ -8,9 +8,8 @@ use lib.Dec.{eqb}
 use borrow.Author.Tests.{eqb-true}
 use Rattle.replay.specs.Room.{Making, Room, new}
 use Rattle.replay.specs.Table.{answered}
-use Rattle.replay.specs.Machine.{Rules, Act, opening, asking, closing, Call, verdict, shift}
+use Rattle.replay.specs.Machine.{Rules, opens, Act, opening, asking, closing, Call, verdict, shift}
 use Rattle.replay.specs.Serial.{outcomes, after, Done, called, calls, answers, struck, Told, Course, doneAt, played, tell, begun, grown, joined, entered, sittings, oldestFirst, serial, Replays}
-use Rattle.replay.proofs.Swap.{opens}
 use Rattle.replay.proofs.Clean.{Clean, shifts, clean-outcomes, clean-after, clean-join, shifts-append, Goes, goes-refl, goes-trans, goes-cons, goes-left, goes-right, goes-swap}
 use Rattle.replay.proofs.Runs.{run-keeps}
 

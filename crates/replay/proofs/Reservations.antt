@@ -14,7 +14,7 @@ use Rattle.replay.specs.Table.{answered, NoneApplies}
 use Rattle.replay.specs.Machine.{Rules, Spare, spare, noSuchDesk, isOpen, aboveRoomLeft, Act, opening, asking, closing, Call, atDesk, openingTable, askingTable, closingTable, tableAt, verdict, moved, shift}
 use Rattle.replay.specs.Serial.{outcomes, after, Done, called, struck, Course, sittings}
 use Rattle.replay.proofs.Desks.{put-all, put-sum}
-use Rattle.replay.proofs.Swap.{opens, heard, shift-less}
+use Rattle.replay.proofs.Swap.{heard, shift-less}
 use Rattle.replay.proofs.Runs.{run-keeps}
 
 -- a desk that is not open is closed
@@ -34,7 +34,7 @@ module _ (R : Rules) where
   opening-fits : (S : Spare) (d : ℕ) (D : Desk (R .State)) (o : Opening) → NoneApplies (tableAt R S d D (opening o))
       → (reserved D ≡ 0) × (reserved (moved R D (opening o)) ≤ S .free)
   unfolding tableAt openingTable aboveRoomLeft reserved moved
-  opening-fits S d D o h = rw (shut D (h .1 .0)) (refl, ltb-false (S .free) (o .reserve) (h .1 .1 .1 .1 .0))
+  opening-fits S d D o h = rw (shut D (h .1 .0)) (refl, ltb-false _ _ (h .1 .1 .1 .1 .0))
 
   -- the reservations are within the room's size
   abbrev Within : Room (R .State) → Type 0

@@ -7,12 +7,12 @@ use mathlib.Core.Path.{_≡_, refl, sym, _∙_, ap, subst}
 use mathlib.Core.Bool.{Bool, true, false, cond, _||_}
 use mathlib.Core.List.{List}
 use lib.Dec.{leb, ltb, eqb}
-use borrow.Author.Tests.{ltb-false, le-ltb}
+use borrow.Author.Tests.{ltb-true, ltb-false}
 use Rattle.numbers.specs.Limits.{desks}
 use Rattle.numbers.proofs.Sums.{sum-mono}
 use Rattle.replay.specs.Room.{Opening, Desk, closed, opened, Room, reserved, reservations, left}
 use Rattle.replay.specs.Table.{Line, Outcome, answered, verdictOf, NoneApplies}
-use Rattle.replay.specs.Machine.{Rules, Spare, spare, noSuchDesk, isOpen, noReservation, aboveRoomLeft, put, Act, opening, asking, closing, Call, atDesk, openingTable, askingTable, closingTable, tableAt, tableOf, answerAt, answerOf, verdict, moved, shift}
+use Rattle.replay.specs.Machine.{Rules, Spare, spare, noSuchDesk, isOpen, noReservation, aboveRoomLeft, put, Act, opening, asking, closing, opens, Call, atDesk, openingTable, askingTable, closingTable, tableAt, tableOf, answerAt, answerOf, verdict, moved, shift}
 use Rattle.replay.proofs.Tables.{none-answers, answers-none}
 use Rattle.replay.proofs.Desks.{apart-sym, put-same, put-other, put-swap, put-all}
 
@@ -23,16 +23,15 @@ pub record Wider (S W : Spare) : Type 0 where
 
 still-fits : (S W : Spare) (o : Opening) → Wider S W → aboveRoomLeft S o ≡ false → aboveRoomLeft W o ≡ false
 unfolding aboveRoomLeft
-still-fits S W o h e = le-ltb (W .free) (o .reserve) (omega (arith, ltb-false (S .free) (o .reserve) e))
+still-fits S W o h e = go (aboveRoomLeft W o) refl
+  where
+    go : (b : Bool) → aboveRoomLeft W o ≡ b → b ≡ false
+    go true above = absurd (omega (arith, ltb-true, ltb-false))
+    go false fits = refl
 
 module _ (R : Rules) where
-  abbrev pub opens : Act R → Bool
-  opens (opening o) = true
-  opens (asking q) = false
-  opens closing = false
-
   -- what is no opening is judged by its desk alone
-  pub table-still : (S W : Spare) (d : ℕ) (D : Desk (R .State)) (a : Act R) → opens a ≡ false → tableAt R S d D a ≡ tableAt R W d D a
+  pub table-still : (S W : Spare) (d : ℕ) (D : Desk (R .State)) (a : Act R) → opens R a ≡ false → tableAt R S d D a ≡ tableAt R W d D a
   unfolding tableAt
   table-still S W d D (opening o) n = let z : _≡_ {A = ℕ} 0 1 = cc in absurd (omega arith)
   table-still S W d D (asking q) n = refl
@@ -47,7 +46,7 @@ module _ (R : Rules) where
   table-wider S W d D closing w h = h
 
   -- an act that is no opening reserves nothing more
-  pub moved-less : (D : Desk (R .State)) (a : Act R) → opens a ≡ false → reserved (moved R D a) ≤ reserved D
+  pub moved-less : (D : Desk (R .State)) (a : Act R) → opens R a ≡ false → reserved (moved R D a) ≤ reserved D
   unfolding reserved moved
   moved-less closed (opening p) n = let z : _≡_ {A = ℕ} 0 1 = cc in absurd (omega arith)
   moved-less closed (asking q) n = le-refl _
@@ -56,13 +55,13 @@ module _ (R : Rules) where
   moved-less (opened o s) (asking q) n = le-refl _
   moved-less (opened o s) closing n = omega arith
 
-  pub shift-less : (ρ : Room (R .State)) (d : ℕ) (a : Act R) → opens a ≡ false
+  pub shift-less : (ρ : Room (R .State)) (d : ℕ) (a : Act R) → opens R a ≡ false
       → reservations (shift R ρ (atDesk d a)) ≤ reservations ρ
   unfolding shift
   shift-less ρ d a n =
       sum-mono desks (λ e l. put-all (λ e v. reserved v ≤ reserved (ρ .at e)) (ρ .at) d (moved R (ρ .at d) a) (moved-less (ρ .at d) a n) (λ e. le-refl _) e)
 
-  shift-wider : (ρ : Room (R .State)) (d : ℕ) (a : Act R) → opens a ≡ false → Wider (spare ρ) (spare (shift R ρ (atDesk d a)))
+  shift-wider : (ρ : Room (R .State)) (d : ℕ) (a : Act R) → opens R a ≡ false → Wider (spare ρ) (spare (shift R ρ (atDesk d a)))
   unfolding left shift
   shift-wider ρ d a n = let h = shift-less ρ d a n in record { equal = refl; more = omega arith }
 
@@ -86,7 +85,7 @@ module _ (R : Rules) where
   shift-here ρ d a = put-same (ρ .at) d _
 
   -- An act a at desk d and then b, no opening, at desk e: the other way round they answer the same and leave the same room.
-  module _ (ρ : Room (R .State)) (d e : ℕ) (a b : Act R) (x y : R .Answer) (apart : eqb d e ≡ false) (still : opens b ≡ false)
+  module _ (ρ : Room (R .State)) (d e : ℕ) (a b : Act R) (x y : R .Answer) (apart : eqb d e ≡ false) (still : opens R b ≡ false)
       (first : verdict R ρ (atDesk d a) ≡ answered x) (second : verdict R (shift R ρ (atDesk d a)) (atDesk e b) ≡ answered y) where
     pub swap-first : verdict R ρ (atDesk e b) ≡ answered y
     swap-first =

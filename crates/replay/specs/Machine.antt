@@ -77,7 +77,12 @@ module _ (R : Rules) where
     atDesk : ℕ → Act → Call
     roomQuestion : Call
 
-  -- the table of an opening
+  abbrev pub opens : Act → Bool
+  opens (opening o) = true
+  opens (asking q) = false
+  opens closing = false
+
+  -- The tables: for each call one line for each row of document 01's table that concerns it, in its order. An opening:
   unfoldable pub openingTable : Spare → ℕ → Desk (R .State) → Opening → List Line
   openingTable S d D o =
       2 when noSuchDesk d
@@ -87,19 +92,18 @@ module _ (R : Rules) where
       ∷ 7 when aboveRoomLeft S o
       ∷ []
 
-  -- the sitting's own lines, where there is one to judge by
+  -- an ask; its own lines are the sitting's, where there is one to judge by
   unfoldable pub ownLines : Desk (R .State) → R .Ask → List Line
   ownLines closed q = []
   ownLines (opened o s) q = R .lines o s q
 
-  -- the table of an ask
   unfoldable pub askingTable : ℕ → Desk (R .State) → R .Ask → List Line
   askingTable d D q =
       2 when noSuchDesk d
       ∷ 4 when not (isOpen D)
       ∷ ownLines D q
 
-  -- the table of a closing
+  -- a closing
   unfoldable pub closingTable : ℕ → Desk (R .State) → List Line
   closingTable d D =
       2 when noSuchDesk d
@@ -111,7 +115,7 @@ module _ (R : Rules) where
   tableAt S d D (asking q) = askingTable d D q
   tableAt S d D closing = closingTable d D
 
-  -- the table of a call; of the room question "only refusal 1 applies to it"
+  -- any call; "only refusal 1 applies to" the room question
   unfoldable pub tableOf : Room (R .State) → Call → List Line
   tableOf ρ (atDesk d a) = tableAt (spare ρ) d (ρ .at d) a
   tableOf ρ roomQuestion = []

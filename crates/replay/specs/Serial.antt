@@ -7,7 +7,7 @@ use mathlib.Core.List.{List, [], _∷_, _++_, map}
 use lib.Dec.{eqb}
 use Rattle.replay.specs.Room.{Making, Room, new}
 use Rattle.replay.specs.Table.{Outcome, refused, answered}
-use Rattle.replay.specs.Machine.{Rules, Act, opening, asking, closing, Call, atDesk, roomQuestion, verdict, move}
+use Rattle.replay.specs.Machine.{Rules, Act, opening, asking, closing, opens, Call, atDesk, roomQuestion, verdict, move}
 
 module _ (R : Rules) where
   -- what the calls of a run answer
@@ -93,10 +93,16 @@ module _ (R : Rules) where
   unfoldable pub serial : List Done → List Done
   serial xs = oldestFirst (sittings [] xs)
 
-  -- the calls of a list at one desk
-  unfoldable pub callsAt : ℕ → List Done → List Done
-  callsAt d [] = []
-  callsAt d (x ∷ xs) = cond (eqb (x .desk) d) (x ∷ callsAt d xs) (callsAt d xs)
+  -- the calls of a list that pass a test: those at one desk, and the openings
+  unfoldable pub those : (Done → Bool) → List Done → List Done
+  those p [] = []
+  those p (x ∷ xs) = cond (p x) (x ∷ those p xs) (those p xs)
+
+  abbrev pub callsAt : ℕ → List Done → List Done
+  callsAt d xs = those (λ x. eqb (x .desk) d) xs
+
+  abbrev pub openings : List Done → List Done
+  openings xs = those (λ x. opens R (x .act)) xs
 
   -- calls replayed on the room ρ, which must come to `end`: nothing is refused, every answer is the same, and so is the room
   pub record Replays (ρ : Room (R .State)) (xs : List Done) (end : Room (R .State)) : Type 0 where
