@@ -1,13 +1,12 @@
 -- Lists of calls that are all accepted, and when one such list may stand for another. Assumes nothing.
-use Prim.Native.Nat.{ℕ}
 use mathlib.Core.Path.{_≡_, refl, sym, _∙_, ap, ap₂}
 use mathlib.Core.Bool.{false}
 use mathlib.Core.List.{List, [], _∷_, _++_}
 use lib.Dec.{eqb}
 use Rattle.replay.specs.Room.{Room}
 use Rattle.replay.specs.Table.{answered}
-use Rattle.replay.specs.Machine.{Rules, opens, Call, verdict, shift, move}
-use Rattle.replay.specs.Serial.{outcomes, after, Done, called, calls, answers}
+use Rattle.replay.specs.Machine.{Rules, verdict, shift}
+use Rattle.replay.specs.Serial.{opens, outcomes, after, Done, called, calls, answers}
 use Rattle.replay.proofs.Refusals.{answered-shifts}
 use Rattle.replay.proofs.Swap.{swap-first, swap-second, swap-room}
 

@@ -1,6 +1,5 @@
 -- Laws of one desk put in another's place, and of what the desks of a room have reserved. Assumes nothing.
-use Prim.Native.Nat.{ℕ, zero, suc, _+_, _≤_, _<_}
-use native.Mathlib.Nat.{le-refl}
+use Prim.Native.Nat.{ℕ, zero, suc, _+_, _<_}
 use native.Mathlib.Omega.{arith}
 use mathlib.Core.Path.{_≡_, refl, sym, fun-ext}
 use mathlib.Core.Bool.{Bool, true, false, cond}
@@ -9,7 +8,7 @@ use borrow.Author.Tests.{eqb-true, eqb-false, eq-eqb, ne-eqb}
 use Rattle.numbers.specs.Sum.{sum}
 use Rattle.numbers.proofs.Orders.{less, same, more, order}
 use Rattle.numbers.proofs.Sums.{sum-cong}
-use Rattle.replay.specs.Room.{Desk, reserved}
+use Rattle.replay.specs.Room.{Desk}
 use Rattle.replay.specs.Machine.{put}
 
 pub apart-sym : (m n : ℕ) → eqb m n ≡ false → eqb n m ≡ false

@@ -7,7 +7,7 @@ use lib.Dec.{ltb}
 use Rattle.numbers.specs.Sum.{sum}
 use Rattle.replay.specs.Room.{Opening, Room, new, reserved, left}
 use Rattle.replay.specs.Table.{Line, _when_, Outcome, refused, answered, verdictOf}
-use Rattle.replay.specs.Machine.{Rules, outsideLimits, noReservation, aboveRoomLeft, put, settle, opening, asking, closing, Call, atDesk, roomQuestion, openingTable, ownLines, askingTable, closingTable, tableAt, tableOf, answerAt, answerOf, verdict, moved, shift, move}
+use Rattle.replay.specs.Machine.{Rules, outsideLimits, zeroOrAboveK, aboveRoomLeft, put, settle, opening, asking, closing, Call, atDesk, roomQuestion, openingTable, ownLines, askingTable, closingTable, tableAt, tableOf, answerAt, answerOf, verdict, moved, shift, move}
 use Rattle.replay.specs.Serial.{outcomes, calls, answers, struck, played, joined, entered, sittings, oldestFirst, serial}
 use Rattle.replay.specs.Real.{Contracts, Made, Runs}
 use Rattle.replay.proofs.RealRuns.{real-answers, real-room}
@@ -39,19 +39,19 @@ toy = record { State = ℕ; Ask = Say; Answer = Said; done = ok; room = room; fr
 abbrev opensAs : ℕ → ℕ → ℕ → ℕ → Call toy
 opensAs d A D r = atDesk d (opening (record { symbols = A; depth = D; reserve = r }))
 
-abbrev opens : ℕ → ℕ → Call toy
-opens d r = opensAs d 2 1 r
+abbrev opensFor : ℕ → ℕ → Call toy
+opensFor d r = opensAs d 2 1 r
 
-abbrev asks : ℕ → Say → Call toy
-asks d q = atDesk d (asking q)
+abbrev asksFor : ℕ → Say → Call toy
+asksFor d q = atDesk d (asking q)
 
 abbrev closes : ℕ → Call toy
 closes d = atDesk d closing
 
 abbrev mixed : List (Call toy)
 mixed =
-    opens 0 6 ∷ opens 1 4 ∷ opens 2 1 ∷ asks 1 (add 3) ∷ asks 0 (add 5) ∷ opens 1 1 ∷ asks 1 (add 2) ∷ closes 0 ∷ roomQuestion
-    ∷ opens 2 6 ∷ asks 1 total? ∷ asks 0 total? ∷ asks 2 total? ∷ closes 1 ∷ opens 1 4 ∷ opens 8 1 ∷ opens 3 11 ∷ roomQuestion ∷ []
+    opensFor 0 6 ∷ opensFor 1 4 ∷ opensFor 2 1 ∷ asksFor 1 (add 3) ∷ asksFor 0 (add 5) ∷ opensFor 1 1 ∷ asksFor 1 (add 2) ∷ closes 0 ∷ roomQuestion
+    ∷ opensFor 2 6 ∷ asksFor 1 total? ∷ asksFor 0 total? ∷ asksFor 2 total? ∷ closes 1 ∷ opensFor 1 4 ∷ opensFor 8 1 ∷ opensFor 3 11 ∷ roomQuestion ∷ []
 
 abbrev mixedOutcomes : List (Outcome Said)
 mixedOutcomes =
@@ -59,15 +59,15 @@ mixedOutcomes =
     ∷ answered ok ∷ answered (total 3) ∷ refused 4 ∷ answered (total 0) ∷ answered ok ∷ answered ok ∷ refused 2 ∷ refused 6 ∷ answered (room 0) ∷ []
 
 mixed-outcomes : outcomes toy (new 10) mixed ≡ mixedOutcomes
-unfolding outcomes verdict verdictOf tableOf tableAt openingTable askingTable closingTable ownLines outsideLimits noReservation aboveRoomLeft answerOf answerAt move settle shift put moved left reserved sum
+unfolding outcomes verdict verdictOf tableOf tableAt openingTable askingTable closingTable ownLines outsideLimits zeroOrAboveK aboveRoomLeft answerOf answerAt move settle shift put moved left reserved sum
 mixed-outcomes = refl
 
 -- desk 0's sitting, then desk 1's first, then desk 2's, then desk 1's second
 mixed-serial : calls toy (serial toy (struck toy mixed mixedOutcomes)) ≡
-    opens 0 6 ∷ asks 0 (add 5) ∷ closes 0
-    ∷ opens 1 4 ∷ asks 1 (add 3) ∷ asks 1 total? ∷ closes 1
-    ∷ opens 2 6 ∷ asks 2 total?
-    ∷ opens 1 4 ∷ []
+    opensFor 0 6 ∷ asksFor 0 (add 5) ∷ closes 0
+    ∷ opensFor 1 4 ∷ asksFor 1 (add 3) ∷ asksFor 1 total? ∷ closes 1
+    ∷ opensFor 2 6 ∷ asksFor 2 total?
+    ∷ opensFor 1 4 ∷ []
 unfolding calls serial struck sittings entered joined oldestFirst played
 mixed-serial = refl
 
@@ -77,7 +77,7 @@ limits : outcomes toy (new 10)
     ∷ opensAs 0 8 0 4 ∷ opensAs 1 8 0 7 ∷ opensAs 1 8 0 6 ∷ []) ≡
     refused 2 ∷ refused 5 ∷ refused 5 ∷ refused 5 ∷ refused 6 ∷ refused 6 ∷ answered ok ∷ refused 3 ∷ answered ok
     ∷ answered ok ∷ refused 7 ∷ answered ok ∷ []
-unfolding outcomes verdict verdictOf tableOf tableAt openingTable closingTable outsideLimits noReservation aboveRoomLeft answerOf answerAt move settle shift put moved left reserved sum
+unfolding outcomes verdict verdictOf tableOf tableAt openingTable closingTable outsideLimits zeroOrAboveK aboveRoomLeft answerOf answerAt move settle shift put moved left reserved sum
 limits = refl
 
 -- a toy store: a room, and numbers that stand for nothing

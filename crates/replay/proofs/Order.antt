@@ -5,8 +5,8 @@ use mathlib.Core.Bool.{Bool, true, false, cond}
 use mathlib.Core.List.{List, [], _∷_, _++_, map, append-nil, append-assoc, Perm, Perm·refl, Perm·trans, Perm·symm, Perm·append-left, Perm·append-right, perm-append-singleton}
 use lib.Dec.{eqb}
 use borrow.Author.Tests.{eqb-true}
-use Rattle.replay.specs.Machine.{Rules, Act, opening, asking, closing, opens}
-use Rattle.replay.specs.Serial.{Done, Told, Course, doneAt, played, begun, grown, joined, entered, sittings, oldestFirst, serial, those, callsAt, openings}
+use Rattle.replay.specs.Machine.{Rules}
+use Rattle.replay.specs.Serial.{opens, Done, Told, Course, doneAt, played, begun, grown, joined, entered, sittings, oldestFirst, serial, those, callsAt, openings}
 use Rattle.replay.proofs.Replay.{played-grown}
 
 -- ---- nothing is lost or doubled
@@ -25,20 +25,19 @@ module _ (R : Rules) where
           (Perm·trans (Perm·append-right (played R g) h)
           (rw append-assoc (Perm·append-left (oldestFirst R gs) (Perm·symm (perm-append-singleton x (played R g))))))
 
-  entered-same : (x : Done R) (gs : List (Course R)) → Perm (oldestFirst R (entered R (x .act) x gs)) (oldestFirst R gs ++ x ∷ [])
+  entered-same : (x : Done R) (gs : List (Course R)) → Perm (oldestFirst R (entered R x gs)) (oldestFirst R gs ++ x ∷ [])
   unfolding entered oldestFirst played
-  entered-same x gs = go (x .act)
+  entered-same x gs = go (opens R (x .act))
     where
-      go : (a : Act R) → Perm (oldestFirst R (entered R a x gs)) (oldestFirst R gs ++ x ∷ [])
-      go (opening o) = Perm·refl _
-      go (asking q) = joined-same x gs
-      go closing = joined-same x gs
+      go : (b : Bool) → Perm (oldestFirst R (cond b (begun R x ∷ gs) (joined R x gs))) (oldestFirst R gs ++ x ∷ [])
+      go true = Perm·refl _
+      go false = joined-same x gs
 
   sittings-same : (xs : List (Done R)) (gs : List (Course R)) → Perm (oldestFirst R (sittings R gs xs)) (oldestFirst R gs ++ xs)
   unfolding sittings
   sittings-same [] gs = rw append-nil (Perm·refl _)
   sittings-same (x ∷ xs) gs =
-      Perm·trans (sittings-same xs (entered R (x .act) x gs))
+      Perm·trans (sittings-same xs (entered R x gs))
       (rw (← (append-assoc (oldestFirst R gs) (x ∷ []) xs)) (Perm·append-right xs (entered-same x gs)))
 
   -- the serial order has the same calls, each as often as before
@@ -72,19 +71,18 @@ module _ (R : Rules) (p : Done R → Bool)
       go true e h = rw (played-grown R g x (eqb-true (g .desk) (x .desk) e), append-assoc)
       go false e h = simp (those-append, h, append-assoc, either x g n e)
 
-  entered-order : (x : Done R) (gs : List (Course R)) → those R p (oldestFirst R (entered R (x .act) x gs)) ≡ those R p (oldestFirst R gs ++ x ∷ [])
+  entered-order : (x : Done R) (gs : List (Course R)) → those R p (oldestFirst R (entered R x gs)) ≡ those R p (oldestFirst R gs ++ x ∷ [])
   unfolding entered oldestFirst played
-  entered-order x gs = go (x .act) refl
+  entered-order x gs = go (opens R (x .act)) refl
     where
-      go : (a : Act R) → x .act ≡ a → those R p (oldestFirst R (entered R a x gs)) ≡ those R p (oldestFirst R gs ++ x ∷ [])
-      go (opening o) e = refl
-      go (asking q) e = joined-order x (ap (opens R) e) gs
-      go closing e = joined-order x (ap (opens R) e) gs
+      go : (b : Bool) → opens R (x .act) ≡ b → those R p (oldestFirst R (cond b (begun R x ∷ gs) (joined R x gs))) ≡ those R p (oldestFirst R gs ++ x ∷ [])
+      go true e = refl
+      go false e = joined-order x e gs
 
   sittings-order : (xs : List (Done R)) (gs : List (Course R)) → those R p (oldestFirst R (sittings R gs xs)) ≡ those R p (oldestFirst R gs ++ xs)
   unfolding sittings
   sittings-order [] gs = rw append-nil
-  sittings-order (x ∷ xs) gs = sittings-order xs (entered R (x .act) x gs)
+  sittings-order (x ∷ xs) gs = sittings-order xs (entered R x gs)
       ∙ simp (those-append, entered-order x gs, append-assoc) (ap (those R p (oldestFirst R gs) ++_) (sym (those-append (x ∷ []) xs)))
 
   serial-order : (xs : List (Done R)) → those R p (serial R xs) ≡ those R p xs

@@ -1,17 +1,17 @@
 -- Each sitting of a run answers, and leaves its desk, as it would alone. Assumes nothing.
 use Prim.Native.Nat.{ℕ}
 use native.Mathlib.Omega.{arith}
-use mathlib.Core.Path.{_≡_, refl, sym, _∙_, ap}
-use mathlib.Core.Bool.{Bool, true, false, cond, not}
-use mathlib.Core.List.{List, [], _∷_, _++_, foldl, foldl-append}
-use mathlib.Core.Option.{Option, none, some}
+use mathlib.Core.Path.{_≡_, refl, ap}
+use mathlib.Core.Bool.{Bool, true, false, cond}
+use mathlib.Core.List.{List, [], _∷_, _++_}
+use mathlib.Core.Option.{some}
 use lib.Dec.{eqb}
 use borrow.Author.Tests.{eqb-true}
 use Rattle.replay.specs.Room.{Making, Opening, Desk, closed, opened, Room, new}
 use Rattle.replay.specs.Table.{answered, NoneApplies}
-use Rattle.replay.specs.Machine.{Rules, opens, Spare, spare, isOpen, Act, opening, asking, closing, Call, atDesk, openingTable, ownLines, askingTable, closingTable, tableAt, answerAt, verdict, moved, shift}
-use Rattle.replay.specs.Serial.{outcomes, after, Done, called, struck, Told, Course, tell, begun, grown, joined, entered, sittings}
-use Rattle.replay.specs.Alone.{Alone, begins, goes-on, ends, latest, Stands, EachAlone, OnTheirOwn, asks, reached, OpenAlone, AnsweredAlone}
+use Rattle.replay.specs.Machine.{Rules, Spare, spare, Act, opening, asking, closing, Call, openingTable, ownLines, askingTable, closingTable, tableAt, answerAt, verdict, moved, shift}
+use Rattle.replay.specs.Serial.{opens, outcomes, after, Done, called, struck, Told, Course, tell, begun, grown, joined, entered, sittings}
+use Rattle.replay.specs.Alone.{Alone, begins, goes-on, ends, latest, Stands, EachAlone, OnTheirOwn}
 use Rattle.replay.proofs.Desks.{apart-sym}
 use Rattle.replay.proofs.Swap.{heard, shift-here, shift-away}
 use Rattle.replay.proofs.Reservations.{shut}
@@ -111,11 +111,11 @@ module _ (R : Rules) where
       go d false p = rw (shift-away R ρ (x .desk) (x .act) d (apart-sym (x .desk) d p), joined-away x d p gs) (own .desks d)
 
   own-one : (ρ : Room (R .State)) (gs : List (Course R)) (x : Done R) → OnTheirOwn R ρ gs → verdict R ρ (called R x) ≡ answered (x .answer)
-      → OnTheirOwn R (shift R ρ (called R x)) (entered R (x .act) x gs)
+      → OnTheirOwn R (shift R ρ (called R x)) (entered R x gs)
   unfolding entered
   own-one ρ gs x own e = go (x .act) refl
     where
-      go : (a : Act R) → x .act ≡ a → OnTheirOwn R (shift R ρ (called R x)) (entered R a x gs)
+      go : (a : Act R) → x .act ≡ a → OnTheirOwn R (shift R ρ (called R x)) (cond (opens R a) (begun R x ∷ gs) (joined R x gs))
       go (opening o) act = own-opening ρ gs x o act own e
       go (asking q) act = own-other ρ gs x (ap (opens R) act) own e
       go closing act = own-other ρ gs x (ap (opens R) act) own e

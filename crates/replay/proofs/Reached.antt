@@ -1,5 +1,5 @@
 -- An open desk has the state to which its own sitting's calls have brought it, and answers an ask by that. Assumes nothing.
-use Prim.Native.Nat.{ℕ, _<_, _≤_}
+use Prim.Native.Nat.{ℕ}
 use native.Mathlib.Omega.{arith}
 use mathlib.Core.Path.{_≡_, refl, sym, _∙_, ap}
 use mathlib.Core.Bool.{Bool, true, false, cond}
@@ -8,11 +8,11 @@ use mathlib.Core.Option.{Option, none, some}
 use lib.Dec.{leb}
 use borrow.Author.Tests.{leb-true}
 use Rattle.numbers.specs.Limits.{desks}
-use Rattle.replay.specs.Room.{Making, Opening, Desk, closed, opened, Room, new}
+use Rattle.replay.specs.Room.{Making, Opening, Desk, closed, opened, new}
 use Rattle.replay.specs.Table.{refused, answered, verdictOf, NoneApplies}
-use Rattle.replay.specs.Machine.{Rules, Spare, spare, Act, opening, asking, closing, Call, atDesk, ownLines, askingTable, tableAt, tableOf, answerAt, answerOf, verdict}
+use Rattle.replay.specs.Machine.{Rules, spare, Act, opening, asking, closing, Call, atDesk, ownLines, askingTable, tableAt, tableOf, answerAt, answerOf, verdict}
 use Rattle.replay.specs.Serial.{outcomes, after, struck, Told, Course, sittings}
-use Rattle.replay.specs.Alone.{Alone, begins, goes-on, ends, latest, Stands, asks, reached, OpenAlone, AnsweredAlone}
+use Rattle.replay.specs.Alone.{Alone, begins, goes-on, latest, Stands, asks, reached, OpenAlone, AnsweredAlone}
 use Rattle.replay.proofs.Swap.{heard}
 use Rattle.replay.proofs.Reservations.{only-eight}
 use Rattle.replay.proofs.Own.{alone}

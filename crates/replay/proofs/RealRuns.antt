@@ -2,10 +2,10 @@
 use Prim.Native.Nat.{ℕ}
 use mathlib.Core.Path.{_≡_, refl, sym, _∙_, ap, ap₂}
 use mathlib.Core.List.{List, [], _∷_}
-use Rattle.replay.specs.Room.{Making, Opening, opened, Room, new}
+use Rattle.replay.specs.Room.{Making, Opening, opened, new}
 use Rattle.replay.specs.Table.{Outcome, answered}
-use Rattle.replay.specs.Machine.{Rules, asking, Call, atDesk, verdict, move}
-use Rattle.replay.specs.Serial.{outcomes, after, Done, calls, answers, struck, sittings, serial}
+use Rattle.replay.specs.Machine.{Rules, asking, Call, atDesk, verdict}
+use Rattle.replay.specs.Serial.{outcomes, after, calls, answers, struck, sittings, serial}
 use Rattle.replay.specs.Alone.{OpenAlone, AnsweredAlone}
 use Rattle.replay.specs.Real.{Contracts, Made, Runs, stop, then}
 use Rattle.replay.proofs.Replay.{replay}

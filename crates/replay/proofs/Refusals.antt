@@ -6,7 +6,7 @@ use mathlib.Core.Logic.{_↔_}
 use lib.Dec.{T}
 use Rattle.replay.specs.Room.{Opening, Desk, closed, opened, Room, left}
 use Rattle.replay.specs.Table.{Outcome, answered, refused, verdictOf, NoneApplies, First, rises}
-use Rattle.replay.specs.Machine.{Rules, Act, opening, asking, closing, Call, atDesk, roomQuestion, openingTable, ownLines, askingTable, closingTable, tableAt, tableOf, answerOf, verdict, shift, settle, move}
+use Rattle.replay.specs.Machine.{Rules, opening, asking, closing, Call, atDesk, roomQuestion, openingTable, ownLines, askingTable, closingTable, tableAt, tableOf, answerOf, verdict, shift, settle, move}
 use Rattle.replay.proofs.Tables.{refused-exactly, answered-exactly, answers-none}
 
 module _ (R : Rules) where

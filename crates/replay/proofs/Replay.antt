@@ -1,15 +1,15 @@
 -- Demand 3 of the room: a run's accepted calls, played on a new room one sitting after another, answer the same and leave the
 -- same room. Assumes nothing.
 use Prim.Native.Nat.{ℕ}
-use mathlib.Core.Path.{_≡_, refl, sym, _∙_, ap}
+use mathlib.Core.Path.{_≡_, refl, _∙_, ap}
 use mathlib.Core.Bool.{Bool, true, false, cond}
 use mathlib.Core.List.{List, [], _∷_, _++_, map, map-append, append-assoc}
 use lib.Dec.{eqb}
 use borrow.Author.Tests.{eqb-true}
 use Rattle.replay.specs.Room.{Making, Room, new}
 use Rattle.replay.specs.Table.{answered}
-use Rattle.replay.specs.Machine.{Rules, opens, Act, opening, asking, closing, Call, verdict, shift}
-use Rattle.replay.specs.Serial.{outcomes, after, Done, called, calls, answers, struck, Told, Course, doneAt, played, tell, begun, grown, joined, entered, sittings, oldestFirst, serial, Replays}
+use Rattle.replay.specs.Machine.{Rules, Call, verdict, shift}
+use Rattle.replay.specs.Serial.{opens, outcomes, after, Done, called, struck, Told, Course, doneAt, played, tell, begun, grown, joined, entered, sittings, oldestFirst, serial, Replays}
 use Rattle.replay.proofs.Clean.{Clean, shifts, clean-outcomes, clean-after, clean-join, shifts-append, Goes, goes-refl, goes-trans, goes-cons, goes-left, goes-right, goes-swap}
 use Rattle.replay.proofs.Runs.{run-keeps}
 
@@ -42,21 +42,20 @@ module _ (R : Rules) where
           (goes-right R (played R g) rest)))
 
   -- an accepted call, entered among the sittings
-  enters : (x : Done R) (gs : List (Course R)) → Goes R (oldestFirst R gs ++ x ∷ []) (oldestFirst R (entered R (x .act) x gs))
+  enters : (x : Done R) (gs : List (Course R)) → Goes R (oldestFirst R gs ++ x ∷ []) (oldestFirst R (entered R x gs))
   unfolding entered oldestFirst played
-  enters x gs = go (x .act) refl
+  enters x gs = go (opens R (x .act)) refl
     where
-      go : (a : Act R) → x .act ≡ a → Goes R (oldestFirst R gs ++ x ∷ []) (oldestFirst R (entered R a x gs))
-      go (opening o) e = goes-refl R _
-      go (asking q) e = joins x (ap (opens R) e) gs
-      go closing e = joins x (ap (opens R) e) gs
+      go : (b : Bool) → opens R (x .act) ≡ b → Goes R (oldestFirst R gs ++ x ∷ []) (oldestFirst R (cond b (begun R x ∷ gs) (joined R x gs)))
+      go true e = goes-refl R _
+      go false e = joins x e gs
 
   -- played on a new room, the sittings `gs` are clean and come to ρ
   abbrev Plays : Making → Room (R .State) → List (Course R) → Type 0
   Plays K ρ gs = Clean R (new K) (oldestFirst R gs) × (shifts R (new K) (oldestFirst R gs) ≡ ρ)
 
   plays-one : (K : Making) (ρ : Room (R .State)) (gs : List (Course R)) (x : Done R) → Plays K ρ gs → verdict R ρ (called R x) ≡ answered (x .answer)
-      → Plays K (shift R ρ (called R x)) (entered R (x .act) x gs)
+      → Plays K (shift R ρ (called R x)) (entered R x gs)
   plays-one K ρ gs x h e =
       let p = enters x gs .on (new K) (clean-join R (new K) (oldestFirst R gs) (x ∷ []) (h .0) (rw (h .1) (e, tt))) in
       (p .0, p .1 ∙ shifts-append R (new K) (oldestFirst R gs) (x ∷ []) ∙ ap (λ r. shift R r (called R x)) (h .1))

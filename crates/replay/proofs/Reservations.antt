@@ -1,18 +1,17 @@
 -- The reservations of the open sittings never exceed K, so the room left and they make up K; only desks 0 to 7 are ever open.
 -- Assumes nothing.
-use Prim.Native.Nat.{ℕ, _+_, _-_, _≤_, _<_}
+use Prim.Native.Nat.{ℕ, _+_, _≤_, _<_}
 use native.Mathlib.Omega.{arith}
-use mathlib.Core.Path.{_≡_, refl, ap}
+use mathlib.Core.Path.{_≡_, refl}
 use mathlib.Core.Bool.{false}
 use mathlib.Core.List.{List, []}
 use borrow.Author.Tests.{leb-false, ltb-false}
 use Rattle.numbers.specs.Limits.{desks}
-use Rattle.numbers.specs.Sum.{sum}
 use Rattle.numbers.proofs.Sums.{sum-zero}
 use Rattle.replay.specs.Room.{Making, Opening, Desk, closed, opened, Room, new, reserved, reservations, left}
 use Rattle.replay.specs.Table.{answered, NoneApplies}
-use Rattle.replay.specs.Machine.{Rules, Spare, spare, noSuchDesk, isOpen, aboveRoomLeft, Act, opening, asking, closing, Call, atDesk, openingTable, askingTable, closingTable, tableAt, verdict, moved, shift}
-use Rattle.replay.specs.Serial.{outcomes, after, Done, called, struck, Course, sittings}
+use Rattle.replay.specs.Machine.{Rules, Spare, spare, isOpen, aboveRoomLeft, Act, opening, asking, closing, Call, atDesk, openingTable, askingTable, closingTable, tableAt, verdict, moved, shift}
+use Rattle.replay.specs.Serial.{after}
 use Rattle.replay.proofs.Desks.{put-all, put-sum}
 use Rattle.replay.proofs.Swap.{heard, shift-less}
 use Rattle.replay.proofs.Runs.{run-keeps}

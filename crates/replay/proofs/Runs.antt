@@ -1,17 +1,16 @@
 -- What an accepted call keeps, of a room and the sittings so far, every run keeps: refused calls and room questions change
 -- neither. Assumes nothing.
-use Prim.Native.Nat.{ℕ}
 use mathlib.Core.Path.{_≡_, refl}
 use mathlib.Core.List.{List, [], _∷_}
 use Rattle.replay.specs.Room.{Room}
 use Rattle.replay.specs.Table.{Outcome, refused, answered}
-use Rattle.replay.specs.Machine.{Rules, Act, Call, atDesk, roomQuestion, verdict, shift, move}
+use Rattle.replay.specs.Machine.{Rules, Call, atDesk, roomQuestion, verdict, shift, move}
 use Rattle.replay.specs.Serial.{outcomes, after, Done, called, struck, Course, entered, sittings}
 use Rattle.replay.proofs.Refusals.{refused-stays, answered-shifts, question-stays}
 
 module _ (R : Rules) (I : Room (R .State) → List (Course R) → Type 0)
     (one : (ρ : Room (R .State)) (gs : List (Course R)) (x : Done R) → I ρ gs → verdict R ρ (called R x) ≡ answered (x .answer)
-    → I (shift R ρ (called R x)) (entered R (x .act) x gs)) where
+    → I (shift R ρ (called R x)) (entered R x gs)) where
   pub run-keeps : (cs : List (Call R)) (ρ : Room (R .State)) (gs : List (Course R)) → I ρ gs
       → I (after R ρ cs) (sittings R gs (struck R cs (outcomes R ρ cs)))
   unfolding sittings struck outcomes after

@@ -1,18 +1,18 @@
 -- Two calls at different desks, the later of them no opening, may be exchanged: they answer the same and leave the same room.
 -- Assumes nothing.
-use Prim.Native.Nat.{ℕ, _+_, _-_, _≤_, _<_}
+use Prim.Native.Nat.{ℕ, _≤_}
 use native.Mathlib.Nat.{le-refl}
 use native.Mathlib.Omega.{arith}
-use mathlib.Core.Path.{_≡_, refl, sym, _∙_, ap, subst}
-use mathlib.Core.Bool.{Bool, true, false, cond, _||_}
-use mathlib.Core.List.{List}
-use lib.Dec.{leb, ltb, eqb}
+use mathlib.Core.Path.{_≡_, refl, _∙_, ap}
+use mathlib.Core.Bool.{Bool, true, false}
+use lib.Dec.{eqb}
 use borrow.Author.Tests.{ltb-true, ltb-false}
 use Rattle.numbers.specs.Limits.{desks}
 use Rattle.numbers.proofs.Sums.{sum-mono}
 use Rattle.replay.specs.Room.{Opening, Desk, closed, opened, Room, reserved, reservations, left}
-use Rattle.replay.specs.Table.{Line, Outcome, answered, verdictOf, NoneApplies}
-use Rattle.replay.specs.Machine.{Rules, Spare, spare, noSuchDesk, isOpen, noReservation, aboveRoomLeft, put, Act, opening, asking, closing, opens, Call, atDesk, openingTable, askingTable, closingTable, tableAt, tableOf, answerAt, answerOf, verdict, moved, shift}
+use Rattle.replay.specs.Table.{answered, NoneApplies}
+use Rattle.replay.specs.Machine.{Rules, Spare, spare, zeroOrAboveK, aboveRoomLeft, Act, opening, asking, closing, atDesk, openingTable, tableAt, tableOf, answerAt, answerOf, verdict, moved, shift}
+use Rattle.replay.specs.Serial.{opens}
 use Rattle.replay.proofs.Tables.{none-answers, answers-none}
 use Rattle.replay.proofs.Desks.{apart-sym, put-same, put-other, put-swap, put-all}
 
@@ -39,7 +39,7 @@ module _ (R : Rules) where
 
   -- more room left refuses nothing more
   table-wider : (S W : Spare) (d : ℕ) (D : Desk (R .State)) (a : Act R) → Wider S W → NoneApplies (tableAt R S d D a) → NoneApplies (tableAt R W d D a)
-  unfolding tableAt openingTable noReservation
+  unfolding tableAt openingTable zeroOrAboveK
   table-wider S W d D (opening o) w h =
       (h .0, (h .1 .0, (h .1 .1 .0, (rw (← (w .equal)) (h .1 .1 .1 .0), (still-fits S W o w (h .1 .1 .1 .1 .0), tt)))))
   table-wider S W d D (asking q) w h = h

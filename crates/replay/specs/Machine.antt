@@ -37,6 +37,17 @@ pub record Spare : Type 0 where
 abbrev pub spare : {State : Type 0} → Room State → Spare
 spare ρ = record { size = ρ .made; free = left ρ }
 
+-- the desks with v at desk d
+unfoldable pub put : {State : Type 0} → (ℕ → Desk State) → ℕ → Desk State → ℕ → Desk State
+put at d v e = cond (eqb e d) v (at e)
+
+-- what stands after a call: a refusal changes nothing
+unfoldable pub settle : {Answer Thing : Type 0} → Outcome Answer → Thing → Thing → Thing
+settle (refused n) before changed = before
+settle (answered a) before changed = changed
+
+-- ---- the tables: for each call one line for each row of document 01's table that concerns it, in its order
+
 -- "desk number above 7"
 abbrev pub noSuchDesk : ℕ → Bool
 noSuchDesk d = leb desks d
@@ -50,75 +61,66 @@ unfoldable pub outsideLimits : Opening → Bool
 outsideLimits o = ltb (o .symbols) fewestSymbols || ltb mostSymbols (o .symbols) || ltb deepest (o .depth)
 
 -- "reservation 0 or above K"
-unfoldable pub noReservation : Spare → Opening → Bool
-noReservation S o = eqb (o .reserve) 0 || ltb (S .size) (o .reserve)
+unfoldable pub zeroOrAboveK : Spare → Opening → Bool
+zeroOrAboveK S o = eqb (o .reserve) 0 || ltb (S .size) (o .reserve)
 
 -- "reservation above the room left"
 unfoldable pub aboveRoomLeft : Spare → Opening → Bool
 aboveRoomLeft S o = ltb (S .free) (o .reserve)
 
--- one desk of a room put in another's place
-unfoldable pub put : {State : Type 0} → (ℕ → Desk State) → ℕ → Desk State → ℕ → Desk State
-put at d v e = cond (eqb e d) v (at e)
+-- the table of an opening
+unfoldable pub openingTable : {State : Type 0} → Spare → ℕ → Desk State → Opening → List Line
+openingTable S d D o =
+    2 when noSuchDesk d
+    ∷ 3 when isOpen D
+    ∷ 5 when outsideLimits o
+    ∷ 6 when zeroOrAboveK S o
+    ∷ 7 when aboveRoomLeft S o
+    ∷ []
 
--- a refusal changes nothing
-unfoldable pub settle : {Answer Thing : Type 0} → Outcome Answer → Thing → Thing → Thing
-settle (refused n) before changed = before
-settle (answered a) before changed = changed
+-- the table of a closing
+unfoldable pub closingTable : {State : Type 0} → ℕ → Desk State → List Line
+closingTable d D =
+    2 when noSuchDesk d
+    ∷ 4 when not (isOpen D)
+    ∷ []
 
 module _ (R : Rules) where
-  -- what is called for at a desk
-  pub data Act : Type 0 where
-    opening : Opening → Act
-    asking : R .Ask → Act
-    closing : Act
-
-  pub data Call : Type 0 where
-    atDesk : ℕ → Act → Call
-    roomQuestion : Call
-
-  abbrev pub opens : Act → Bool
-  opens (opening o) = true
-  opens (asking q) = false
-  opens closing = false
-
-  -- The tables: for each call one line for each row of document 01's table that concerns it, in its order. An opening:
-  unfoldable pub openingTable : Spare → ℕ → Desk (R .State) → Opening → List Line
-  openingTable S d D o =
-      2 when noSuchDesk d
-      ∷ 3 when isOpen D
-      ∷ 5 when outsideLimits o
-      ∷ 6 when noReservation S o
-      ∷ 7 when aboveRoomLeft S o
-      ∷ []
-
-  -- an ask; its own lines are the sitting's, where there is one to judge by
+  -- an ask's own lines, where there is a sitting to judge by
   unfoldable pub ownLines : Desk (R .State) → R .Ask → List Line
   ownLines closed q = []
   ownLines (opened o s) q = R .lines o s q
 
+  -- the table of an ask
   unfoldable pub askingTable : ℕ → Desk (R .State) → R .Ask → List Line
   askingTable d D q =
       2 when noSuchDesk d
       ∷ 4 when not (isOpen D)
       ∷ ownLines D q
 
-  -- a closing
-  unfoldable pub closingTable : ℕ → Desk (R .State) → List Line
-  closingTable d D =
-      2 when noSuchDesk d
-      ∷ 4 when not (isOpen D)
-      ∷ []
+  -- what a caller may want at a desk
+  pub data Act : Type 0 where
+    opening : Opening → Act
+    asking : R .Ask → Act
+    closing : Act
 
+  -- a call: an act at a desk, or the room question
+  pub data Call : Type 0 where
+    atDesk : ℕ → Act → Call
+    roomQuestion : Call
+
+  -- the table of an act at desk d, which is now D
   unfoldable pub tableAt : Spare → ℕ → Desk (R .State) → Act → List Line
   tableAt S d D (opening o) = openingTable S d D o
   tableAt S d D (asking q) = askingTable d D q
   tableAt S d D closing = closingTable d D
 
-  -- any call; "only refusal 1 applies to" the room question
+  -- the table of a call; of the room question "only refusal 1 applies to it"
   unfoldable pub tableOf : Room (R .State) → Call → List Line
   tableOf ρ (atDesk d a) = tableAt (spare ρ) d (ρ .at d) a
   tableOf ρ roomQuestion = []
+
+  -- ---- what a call answers
 
   -- what an accepted act answers (an ask at a closed desk never is)
   unfoldable pub answerAt : Desk (R .State) → Act → R .Answer
@@ -127,6 +129,7 @@ module _ (R : Rules) where
   answerAt (opened o s) (asking q) = R .answer o s q
   answerAt D closing = R .done
 
+  -- what an accepted call answers
   unfoldable pub answerOf : Room (R .State) → Call → R .Answer
   answerOf ρ (atDesk d a) = answerAt (ρ .at d) a
   answerOf ρ roomQuestion = R .room (left ρ)
@@ -134,6 +137,8 @@ module _ (R : Rules) where
   -- what a call answers in a room
   unfoldable pub verdict : Room (R .State) → Call → Outcome (R .Answer)
   verdict ρ c = verdictOf (tableOf ρ c) (answerOf ρ c)
+
+  -- ---- what a call leaves
 
   -- a desk after an accepted act (where an act is never accepted, the desk as it was)
   unfoldable pub moved : Desk (R .State) → Act → Desk (R .State)

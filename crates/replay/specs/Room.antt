@@ -1,6 +1,6 @@
 -- A room of K contexts and its eight desks: what the numbers of a store stand for. What a sitting has so far is the parameter `State`.
 -- Assumes nothing.
-use Prim.Native.Nat.{ℕ, _+_, _-_}
+use Prim.Native.Nat.{ℕ, _-_}
 use Rattle.numbers.specs.Limits.{desks}
 use Rattle.numbers.specs.Sum.{sum}
 

@@ -2,12 +2,12 @@
 -- sitting after another. Assumes nothing.
 use Prim.Native.Nat.{ℕ}
 use mathlib.Core.Path.{_≡_}
-use mathlib.Core.Bool.{Bool, cond}
+use mathlib.Core.Bool.{Bool, true, false, cond}
 use mathlib.Core.List.{List, [], _∷_, _++_, map}
 use lib.Dec.{eqb}
-use Rattle.replay.specs.Room.{Making, Room, new}
+use Rattle.replay.specs.Room.{Room}
 use Rattle.replay.specs.Table.{Outcome, refused, answered}
-use Rattle.replay.specs.Machine.{Rules, Act, opening, asking, closing, opens, Call, atDesk, roomQuestion, verdict, move}
+use Rattle.replay.specs.Machine.{Rules, Act, opening, asking, closing, Call, atDesk, roomQuestion, verdict, move}
 
 module _ (R : Rules) where
   -- what the calls of a run answer
@@ -26,6 +26,7 @@ module _ (R : Rules) where
     pub act : Act R
     pub answer : R .Answer
 
+  -- the calls and answers of such a list
   abbrev pub called : Done → Call R
   called x = atDesk (x .desk) (x .act)
 
@@ -74,16 +75,19 @@ module _ (R : Rules) where
   joined x [] = begun x ∷ []
   joined x (g ∷ gs) = cond (eqb (g .desk) (x .desk)) (grown g x ∷ gs) (g ∷ joined x gs)
 
+  abbrev pub opens : Act R → Bool
+  opens (opening o) = true
+  opens (asking q) = false
+  opens closing = false
+
   -- an opening begins a sitting, and any other call joins the one at its desk
-  unfoldable pub entered : Act R → Done → List Course → List Course
-  entered (opening o) x gs = begun x ∷ gs
-  entered (asking q) x gs = joined x gs
-  entered closing x gs = joined x gs
+  unfoldable pub entered : Done → List Course → List Course
+  entered x gs = cond (opens (x .act)) (begun x ∷ gs) (joined x gs)
 
   -- the sittings of a run after those in `gs`, newest first
   unfoldable pub sittings : List Course → List Done → List Course
   sittings gs [] = gs
-  sittings gs (x ∷ xs) = sittings (entered (x .act) x gs) xs
+  sittings gs (x ∷ xs) = sittings (entered x gs) xs
 
   -- one sitting after another in order of opening, each sitting's calls in their own order
   unfoldable pub oldestFirst : List Course → List Done
@@ -102,7 +106,7 @@ module _ (R : Rules) where
   callsAt d xs = those (λ x. eqb (x .desk) d) xs
 
   abbrev pub openings : List Done → List Done
-  openings xs = those (λ x. opens R (x .act)) xs
+  openings xs = those (λ x. opens (x .act)) xs
 
   -- calls replayed on the room ρ, which must come to `end`: nothing is refused, every answer is the same, and so is the room
   pub record Replays (ρ : Room (R .State)) (xs : List Done) (end : Room (R .State)) : Type 0 where
