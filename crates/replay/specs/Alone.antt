@@ -39,7 +39,7 @@ module _ (R : Rules) where
     pub each : EachAlone gs
     pub desks : (d : ℕ) → Stands (ρ .at d) (latest d gs)
 
-  -- the asks among a sitting's acts, and the state to which asks bring a new sitting
+  -- the asks among a sitting's acts
   unfoldable pub asks : List (Told R) → List (R .Ask)
   asks [] = []
   asks (t ∷ ts) = asked (t .act) (asks ts)
@@ -49,6 +49,7 @@ module _ (R : Rules) where
       asked (asking q) qs = q ∷ qs
       asked closing qs = qs
 
+  -- the state to which asks, one after the other, bring a new sitting
   unfoldable pub reached : Opening → List (R .Ask) → R .State
   reached o qs = foldl (R .next o) (R .fresh o) qs
 

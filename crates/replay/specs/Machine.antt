@@ -52,6 +52,7 @@ settle (answered a) before changed = changed
 abbrev pub noSuchDesk : ℕ → Bool
 noSuchDesk d = leb desks d
 
+-- whether a desk is open
 abbrev pub isOpen : {State : Type 0} → Desk State → Bool
 isOpen closed = false
 isOpen (opened o s) = true

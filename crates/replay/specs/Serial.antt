@@ -26,10 +26,10 @@ module _ (R : Rules) where
     pub act : Act R
     pub answer : R .Answer
 
-  -- the calls and answers of such a list
   abbrev pub called : Done → Call R
   called x = atDesk (x .desk) (x .act)
 
+  -- the calls of a list of these, and what they answered
   unfoldable pub calls : List Done → List (Call R)
   calls xs = map called xs
 
@@ -54,16 +54,18 @@ module _ (R : Rules) where
     pub desk : ℕ
     pub told : List Told
 
+  -- an act as the call at a desk that it was, and back
   abbrev pub doneAt : ℕ → Told → Done
   doneAt d t = record { desk = d; act = t .act; answer = t .answer }
+
+  abbrev pub tell : Done → Told
+  tell x = record { act = x .act; answer = x .answer }
 
   -- a sitting's calls, as the run had them
   unfoldable pub played : Course → List Done
   played g = map (doneAt (g .desk)) (g .told)
 
-  abbrev pub tell : Done → Told
-  tell x = record { act = x .act; answer = x .answer }
-
+  -- a sitting that a call begins, and one that it goes on with
   abbrev pub begun : Done → Course
   begun x = record { desk = x .desk; told = tell x ∷ [] }
 
@@ -75,6 +77,7 @@ module _ (R : Rules) where
   joined x [] = begun x ∷ []
   joined x (g ∷ gs) = cond (eqb (g .desk) (x .desk)) (grown g x ∷ gs) (g ∷ joined x gs)
 
+  -- whether an act is an opening
   abbrev pub opens : Act R → Bool
   opens (opening o) = true
   opens (asking q) = false
@@ -89,11 +92,12 @@ module _ (R : Rules) where
   sittings gs [] = gs
   sittings gs (x ∷ xs) = sittings (entered x gs) xs
 
-  -- one sitting after another in order of opening, each sitting's calls in their own order
+  -- the calls of sittings that stand newest first, the oldest sitting's first
   unfoldable pub oldestFirst : List Course → List Done
   oldestFirst [] = []
   oldestFirst (g ∷ gs) = oldestFirst gs ++ played g
 
+  -- the same calls one sitting after another in order of opening, each sitting's calls in their own order
   unfoldable pub serial : List Done → List Done
   serial xs = oldestFirst (sittings [] xs)
 
