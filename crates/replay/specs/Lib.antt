@@ -1,1 +1,6 @@
 pub mod Room
+pub mod Table
+pub mod Machine
+pub mod Serial
+pub mod Alone
+pub mod Real

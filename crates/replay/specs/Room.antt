@@ -1,6 +1,6 @@
 -- A room of K contexts and its eight desks: what the numbers of a store stand for. What a sitting has so far is the parameter `State`.
 -- Assumes nothing.
-use Prim.Native.Nat.{ℕ, _+_, _-_}
+use Prim.Native.Nat.{ℕ, _-_}
 use Rattle.numbers.specs.Limits.{desks}
 use Rattle.numbers.specs.Sum.{sum}
 
@@ -32,6 +32,10 @@ unfoldable pub reserved : {State : Type 0} → Desk State → ℕ
 reserved closed = 0
 reserved (opened o s) = o .reserve
 
+-- "the reservations of the open sittings"
+abbrev pub reservations : {State : Type 0} → Room State → ℕ
+reservations ρ = sum desks (λ d. reserved (ρ .at d))
+
 -- "Room left is K less the reservations of the open sittings"
 unfoldable pub left : {State : Type 0} → Room State → ℕ
-left ρ = ρ .made - sum desks (λ d. reserved (ρ .at d))
+left ρ = ρ .made - reservations ρ

@@ -1,0 +1,13 @@
+pub mod Tables
+pub mod Refusals
+pub mod Desks
+pub mod Swap
+pub mod Clean
+pub mod Runs
+pub mod Replay
+pub mod Order
+pub mod Reservations
+pub mod Own
+pub mod Reached
+pub mod RealRuns
+pub mod Example
