@@ -1,0 +1,4 @@
+pub mod Holding
+pub mod Ordering
+pub mod Walking
+pub mod Scoring
