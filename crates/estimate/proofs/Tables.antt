@@ -1,9 +1,10 @@
 -- Tables of two samples by eight symbols: their sums, and that the losses worked out of a sitting's table are the sitting's. Assumes nothing.
 use Prim.Native.Nat.{ℕ, zero, suc, _+_, _≤_, _<_}
 use native.Mathlib.Omega.{arith}
-use mathlib.Core.Path.{_≡_, refl, ap, ap₂, _∙_}
+use mathlib.Core.Path.{_≡_, refl, sym, ap, ap₂, _∙_}
 use mathlib.Core.List.{List}
-use lib.ListN.{getD}
+use lib.ListN.{length, getD}
+use lib.Seq.{ext-getD}
 use Rattle.numbers.specs.Limits.{mostSymbols}
 use Rattle.numbers.specs.Sum.{sum}
 use Rattle.numbers.proofs.Sums.{sum-add, sum-cong}
@@ -25,6 +26,10 @@ eight-at c (suc (suc (suc (suc (suc zero))))) l = refl
 eight-at c (suc (suc (suc (suc (suc (suc zero)))))) l = refl
 eight-at c (suc (suc (suc (suc (suc (suc (suc zero))))))) l = refl
 eight-at c (suc (suc (suc (suc (suc (suc (suc (suc a)))))))) l = absurd (omega arith)
+
+-- a list of eight numbers, one by one
+pub eight-same : (l : List ℕ) → length l ≡ mostSymbols → l ≡ eight (λ a. getD l a 0)
+eight-same l e = ext-getD 0 l (eight (λ a. getD l a 0)) e (λ a h. sym (eight-at (λ b. getD l b 0) a (omega arith)))
 
 -- the added counts add up to both samples' sums
 pub sum-shared : (t : List (List ℕ)) → sum mostSymbols (countsIn t shared) ≡ sumOf (rowIn t first) + sumOf (rowIn t second)
