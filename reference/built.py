@@ -8,7 +8,7 @@ from reference.difference import Difference, demand_equal
 from reference.inputs import damaged_file, drawn_file, fixed_files
 from reference.replay import CLOSING_QUESTIONS, replay_of
 from reference.script import SCRIPT_BYTES, UNKNOWN, Player, answer_kind, parse
-from reference.walks import drawn_walk, spoilt_walk
+from reference.walks import drawn_walk, every_length, spoilt_walk
 
 LONGEST_RUN = 120  # seconds
 SCRIPTS = Path(__file__).parent / "scripts"
@@ -54,11 +54,12 @@ class BuiltScripts(Built):
     """The player of scripts."""
 
     def compare_fixed(self, tally):
-        """The scripts kept beside this program: document 01's examples, limits and refusals."""
+        """The scripts kept beside this program: document 01's examples, limits and refusals; every length."""
         for path in sorted(SCRIPTS.glob("*.script")):
             calls = parse(path.read_text())
             player = Player()
             self.compare([(step, player.play(step)) for step in calls], tally)
+        self.compare(every_length().steps, tally)
 
     def compare_drawn(self, random, tally):
         """A run of walks one after another, as many as a script may hold, each from its own making."""

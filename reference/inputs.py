@@ -98,7 +98,10 @@ def drawn_sitting(random, shapes=None):
 
 
 def drawn_file(random):
-    """A whole file, mostly one whose contexts the program has room for."""
+    """A whole file, mostly one whose contexts the program has room for. One in twenty has constant
+    samples at depth 0, so that its score shows one logarithm."""
+    if random.random() < 0.05:
+        return write(2, 0, *((0,) * random.randrange(2, SAMPLE_LIMIT + 1) for _ in range(2)))
     sitting = drawn_sitting(random)
     if random.random() < 0.5:
         sitting = sitting._replace(D=random.randrange(3))

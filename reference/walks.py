@@ -2,7 +2,7 @@
 
 from reference.contexts import code
 from reference.inputs import drawn_length, drawn_sample, weighted
-from reference.limits import ALPHABETS, DEPTHS, DESKS, ROW, store_length
+from reference.limits import ALPHABETS, DEPTHS, DESKS, ROW, SAMPLE_LIMIT, SAMPLES, store_length
 from reference.rows import estimate
 from reference.script import FEEDALL_SYMBOLS, LARGEST, SHEET_NUMBERS, STORE_NUMBERS, Player, call
 
@@ -195,6 +195,19 @@ def play_unmade(walk):
     walk.play("report", 0, 0, 0)
     walk.play("chart", 8, 7, 9, 9)
     walk.play("feedall", 0, 0, 0, 1)
+
+
+def every_length():
+    """One symbol again and again at depth 0, with a report after each feed: the score shows L(n+m) for
+    every n+m from 4 to 1,024."""
+    walk = Walk(random=None)
+    walk.play("make", 1, store_length(1))
+    walk.play("open", 0, 2, 0, 1)
+    for _ in range(SAMPLE_LIMIT):
+        for sample in SAMPLES:
+            walk.play("feed", 0, sample, 0)
+            walk.play("report", 0, 2 * ROW, 0)
+    return walk
 
 
 def spoilt_walk(random):

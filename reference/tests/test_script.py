@@ -5,8 +5,9 @@ import unittest
 from random import Random
 
 from reference.built import SCRIPTS, answers_of
-from reference.script import BadScript, Call, Player, call, parse, play
-from reference.walks import drawn_walk, spoilt_walk
+from reference.logarithm import L
+from reference.script import SCRIPT_BYTES, BadScript, Call, Player, call, parse, play
+from reference.walks import drawn_walk, every_length, spoilt_walk
 
 
 class Language(unittest.TestCase):
@@ -52,6 +53,13 @@ class Kept(unittest.TestCase):
 
 
 class Walks(unittest.TestCase):
+    def test_every_length_shows_the_logarithm(self):
+        walk = every_length()
+        self.assertLessEqual(len(walk.text()), SCRIPT_BYTES)
+        reports = [lines[0] for step, lines in walk.steps if step.name == "report"]
+        self.assertEqual(reports[0], "refused 11")
+        self.assertEqual(reports[3:], [f"report 1 {-L(length)}" for length in range(4, 1025)])
+
     def test_played_again_from_their_text(self):
         for seed in range(6):
             walk = (drawn_walk if seed % 2 else spoilt_walk)(Random(seed))
