@@ -1,0 +1,47 @@
+-- Equal shares have the gap +0.0. Assumes nothing.
+use mathlib.Core.Path.{_≡_, refl, sym, ap, _∙_}
+use mathlib.Core.Bool.{Bool, true, false}
+use Prim.Native.Nat.{ℕ, _*_, _-_, _≤_, _<_}
+use native.Mathlib.Nat.{le-refl, mul-pos}
+use native.Mathlib.Omega.{arith}
+use lib.Dec.{T, lit<, ltb}
+use lib.IntN.{ℤ, pos}
+use lib.Ieee.{Float, nan, inf, fin, binary64, up, down, round, sum, add, neg, sub, lt, eq, le}
+use lib.Ieee.Fits.{down-pos}
+use lib.Ieee.Scale.{round-same}
+use borrow.Author.Tests.{le-ltb}
+use Rattle.chart.specs.Share.{mostCharted, share, zero64, one64}
+use Rattle.chart.specs.Answer.{pointOf}
+use Rattle.chart.proofs.Shares.{zero-is, share-is, share-proper}
+
+-- nothing is left
+none-left : (a d : ℕ) → 0 < d → round binary64 false (a - a) d ≡ zero64
+none-left a d p = round-same binary64 false (a - a) d 0 1 p (lit< tt) (let e : a - a ≡ 0 = omega arith in rw e (omega arith)) ∙ zero-is
+
+-- a number less itself
+less-itself : (s : Bool) (m : ℕ) (e : ℤ) → sub binary64 (fin s m e) (fin s m e) ≡ zero64
+unfolding sub add neg sum
+less-itself true m e =
+    let a = m * up e * down e in
+    rw (le-ltb a a (le-refl a)) (none-left a (down e * down e) (mul-pos (down-pos e) (down-pos e)))
+less-itself false m e =
+    let a = m * up e * down e in
+    rw (le-ltb a a (le-refl a)) (none-left a (down e * down e) (mul-pos (down-pos e) (down-pos e)))
+
+-- a value from 0 to 1 is a number, and less itself it is +0.0
+gap-itself : (x : Float) → T (le zero64 x) → T (le x one64) → sub binary64 x x ≡ zero64
+unfolding le
+gap-itself nan l h = absurd l
+gap-itself (inf true) l h = absurd l
+gap-itself (inf false) l h = absurd h
+gap-itself (fin s m e) l h = less-itself s m e
+
+-- ---- a count c of a total t in the first sample, and d of u in the second
+module _ (c t d u : ℕ) (part : c ≤ t) (some : 0 < t) (most : t ≤ mostCharted) (part′ : d ≤ u) (some′ : 0 < u) (most′ : u ≤ mostCharted) where
+  -- equal fractions have equal shares
+  pub same-share : c * u ≡ d * t → share c t ≡ share d u
+  same-share e = share-is c t part some most ∙ round-same binary64 false c t d u some some′ e ∙ sym (share-is d u part′ some′ most′)
+
+  -- THEOREM. The gap of equal fractions, and so of equal counts and totals, is +0.0
+  pub gap-none : c * u ≡ d * t → pointOf (share c t) (share d u) .gap ≡ zero64
+  gap-none e = rw (← same-share e) (let p = share-proper c t part some most in gap-itself (share c t) (p .low) (p .high))

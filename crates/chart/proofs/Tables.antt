@@ -1,0 +1,40 @@
+-- Tables of two samples by eight symbols: the chart's answer by a sitting's table is the sitting's. Assumes nothing.
+use Prim.Native.Nat.{ℕ, zero, suc, _≤_, _<_}
+use native.Mathlib.Omega.{arith}
+use mathlib.Core.Path.{_≡_, refl, _∙_}
+use mathlib.Core.List.{List}
+use lib.ListN.{getD}
+use Rattle.numbers.specs.Limits.{mostSymbols}
+use Rattle.numbers.specs.Sum.{sum}
+use Rattle.numbers.proofs.Sums.{sum-cong, sum-past}
+use Rattle.contexts.specs.Sitting.{Sample, first, second, Sitting, totalIn, eight, table}
+use Rattle.chart.specs.Share.{mostCharted}
+use Rattle.chart.specs.Answer.{countIn, chartOf, chartIn, Askable}
+
+eight-at : (c : ℕ → ℕ) (a : ℕ) → a < mostSymbols → getD (eight c) a 0 ≡ c a
+eight-at c zero l = refl
+eight-at c (suc zero) l = refl
+eight-at c (suc (suc zero)) l = refl
+eight-at c (suc (suc (suc zero))) l = refl
+eight-at c (suc (suc (suc (suc zero)))) l = refl
+eight-at c (suc (suc (suc (suc (suc zero))))) l = refl
+eight-at c (suc (suc (suc (suc (suc (suc zero)))))) l = refl
+eight-at c (suc (suc (suc (suc (suc (suc (suc zero))))))) l = refl
+eight-at c (suc (suc (suc (suc (suc (suc (suc (suc a)))))))) l = absurd (omega arith)
+
+-- ---- a sitting with no count from A up, and one of its contexts
+module _ (x : Sitting) (s : List ℕ) (few : x .symbols ≤ mostSymbols) (none : (i : Sample) (a : ℕ) → x .symbols ≤ a → x .count i s a ≡ 0) where
+  pub table-count : (i : Sample) (a : ℕ) → a < mostSymbols → countIn (table x s) i a ≡ x .count i s a
+  table-count first a l = eight-at (x .count first s) a l
+  table-count second a l = eight-at (x .count second s) a l
+
+  pub table-total : (i : Sample) → sum mostSymbols (countIn (table x s) i) ≡ totalIn x i s
+  table-total i = sum-cong mostSymbols (table-count i) ∙ sum-past (x .symbols) mostSymbols (x .count i s) few (none i)
+
+  -- THEOREM. The answer by the context's table is the sitting's
+  pub table-chart : (a : ℕ) → a < mostSymbols → chartIn (table x s) a ≡ chartOf x s a
+  table-chart a l = rw (table-count first a l, table-count second a l, table-total first, table-total second)
+
+  -- what the code asks of a table, where both totals are within the limit
+  pub table-askable : (a : ℕ) → a < mostSymbols → ((i : Sample) → totalIn x i s ≤ mostCharted) → Askable (table x s) a
+  table-askable a l h = record { symbol = l; first = rw (table-total first) (h first); second = rw (table-total second) (h second) }

@@ -1,0 +1,53 @@
+-- What the chart question answers, as a function of counts (document 01, "Chart question"). Assumes nothing.
+use Prim.Native.Nat.{ℕ, _≤_, _<_}
+use mathlib.Core.Bool.{Bool, true, false}
+use mathlib.Core.List.{List, []}
+use lib.ListN.{getD}
+use lib.Dec.{ltb}
+use lib.Ieee.{Float, binary64, sub}
+use Rattle.numbers.specs.Limits.{mostSymbols}
+use Rattle.numbers.specs.Sum.{sum}
+use Rattle.contexts.specs.Sitting.{Sample, first, second, Sitting}
+use Rattle.chart.specs.Share.{mostCharted, share}
+use Rattle.chart.specs.declared.Point.{Point}
+use Rattle.chart.specs.declared.Chart.{Chart}
+use Rattle.chart.specs.declared.Chart.the-variants.{Neither, First, Second, Both}
+
+-- "a point that holds the two shares and their difference, first minus second, rounded once"
+abbrev pub pointOf : Float → Float → Point
+pointOf x y = record { first = x; second = y; gap = sub binary64 x y }
+
+-- "neither sample saw the context; only the first, with its share; only the second, with its share; both, with a point":
+-- by whether the first saw it, whether the second did, and the two shares
+abbrev pub told : Bool → Bool → Float → Float → Chart
+told false false x y = Neither
+told true false x y = First x
+told false true x y = Second y
+told true true x y = Both (pointOf x y)
+
+-- where the symbol's count is c of a total t in the first sample, and d of u in the second; a sample with a total of 0 did not see the context
+unfoldable pub answer : ℕ → ℕ → ℕ → ℕ → Chart
+answer c t d u = told (ltb 0 t) (ltb 0 u) (share c t) (share d u)
+
+-- for the symbol a, from the counts that each sample has of A symbols in one context
+abbrev pub chartFrom : ℕ → (Sample → ℕ → ℕ) → ℕ → Chart
+chartFrom A count a = answer (count first a) (sum A (count first)) (count second a) (sum A (count second))
+
+-- "For a desk, a context and a symbol": what is answered of a sitting's context s and symbol a
+abbrev pub chartOf : Sitting → List ℕ → ℕ → Chart
+chartOf x s a = chartFrom (x .symbols) (λ i. x .count i s) a
+
+-- N(s,a) in each sample, read off "a table of two samples by eight symbols"
+abbrev pub countIn : List (List ℕ) → Sample → ℕ → ℕ
+countIn t first a = getD (getD t 0 []) a 0
+countIn t second a = getD (getD t 1 []) a 0
+
+-- what is answered of the symbol a by a context's table
+abbrev pub chartIn : List (List ℕ) → ℕ → Chart
+chartIn t a = chartFrom mostSymbols (countIn t) a
+
+-- what the code asks of a table and a symbol
+pub record Askable (t : List (List ℕ)) (a : ℕ) : Type 0 where
+  pub symbol : a < mostSymbols
+  pub first : sum mostSymbols (countIn t first) ≤ mostCharted
+  pub second : sum mostSymbols (countIn t second) ≤ mostCharted

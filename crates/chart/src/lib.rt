@@ -1,0 +1,81 @@
+// The chart answer from the counts of one context: a symbol's share in each sample, and their gap.
+ghost use mathlib.Core.Path.{_≡_};
+ghost use Prim.Native.Nat.{ℕ, _≤_};
+ghost use lib.ListN.{getD};
+ghost use Rattle.numbers.specs.Limits.{mostSymbols};
+ghost use Rattle.numbers.specs.Sum.{sum};
+ghost use Rattle.chart.specs.Share.{mostCharted, share};
+ghost use Rattle.chart.specs.Answer.{pointOf, answer, chartIn, Askable};
+
+// The two shares, and the first less the second, rounded once.
+pub struct Point {
+    pub first: f64,
+    pub second: f64,
+    pub gap: f64,
+}
+
+// What the samples that saw the context say of the symbol.
+pub enum Chart {
+    Neither,
+    First(f64),
+    Second(f64),
+    Both(Point),
+}
+
+// The answer for a symbol in the context with these counts.
+pub fn chart_of(counts: [[u32; 8]; 2], symbol: u32) -> Chart
+    requires { ⌜ Askable counts symbol ⌝ }
+    ensures { λ r. ⌜ r ≡ chartIn counts symbol ⌝ }
+{
+    let x = counts[0];
+    let y = counts[1];
+    let a = symbol as usize;
+    compared(x[a], total_of(x), y[a], total_of(y))
+}
+
+// A count c of a total t in the first sample, and d of u in the second. A sample with a total of 0 did not see the context.
+fn compared(c: u32, t: u32, d: u32, u: u32) -> Chart
+    ensures { λ r. ⌜ r ≡ answer c t d u ⌝ }
+{
+    if t == 0 {
+        if u == 0 {
+            return Chart::Neither;
+        }
+        return Chart::Second(share_of(d, u));
+    }
+    if u == 0 {
+        return Chart::First(share_of(c, t));
+    }
+    Chart::Both(point_of(share_of(c, t), share_of(d, u)))
+}
+
+fn point_of(first: f64, second: f64) -> Point
+    ensures { λ r. ⌜ r ≡ pointOf first second ⌝ }
+{
+    Point {
+        first,
+        second,
+        gap: first - second,
+    }
+}
+
+// Two exact casts and one division.
+fn share_of(count: u32, total: u32) -> f64
+    ensures { λ r. ⌜ r ≡ share count total ⌝ }
+{
+    (count as f64) / (total as f64)
+}
+
+// What a sample's eight counts add up to.
+fn total_of(row: [u32; 8]) -> u32
+    requires { ⌜ sum mostSymbols (λ (a : ℕ). getD row a 0) ≤ mostCharted ⌝ }
+    ensures { λ r. ⌜ r ≡ sum mostSymbols (λ (a : ℕ). getD row a 0) ⌝ }
+{
+    let mut total: u32 = 0;
+    let mut a: usize = 0;
+    while a < 8 {
+        total += row[a];
+        a += 1;
+    }
+    total
+}
