@@ -10,22 +10,23 @@ use Rattle.chart.specs.Share.{share}
 use Rattle.chart.specs.Answer.{pointOf, answer, chartOf}
 use Rattle.chart.specs.declared.Chart.the-variants.{Neither, First, Second, Both}
 
-module _ (c t d u : ℕ) where
-  pub answer-neither : t ≡ 0 → u ≡ 0 → answer c t d u ≡ Neither
+-- ---- a count c of a total t in each sample
+module _ (c₁ t₁ c₂ t₂ : ℕ) where
+  pub answer-neither : t₁ ≡ 0 → t₂ ≡ 0 → answer c₁ t₁ c₂ t₂ ≡ Neither
   unfolding answer
-  answer-neither p q = rw (le-ltb 0 t (omega arith), le-ltb 0 u (omega arith))
+  answer-neither p q = rw (le-ltb 0 t₁ (omega arith), le-ltb 0 t₂ (omega arith))
 
-  pub answer-first : 0 < t → u ≡ 0 → answer c t d u ≡ First (share c t)
+  pub answer-first : 0 < t₁ → t₂ ≡ 0 → answer c₁ t₁ c₂ t₂ ≡ First (share c₁ t₁)
   unfolding answer
-  answer-first p q = rw (lt-ltb 0 t p, le-ltb 0 u (omega arith))
+  answer-first p q = rw (lt-ltb 0 t₁ p, le-ltb 0 t₂ (omega arith))
 
-  pub answer-second : t ≡ 0 → 0 < u → answer c t d u ≡ Second (share d u)
+  pub answer-second : t₁ ≡ 0 → 0 < t₂ → answer c₁ t₁ c₂ t₂ ≡ Second (share c₂ t₂)
   unfolding answer
-  answer-second p q = rw (le-ltb 0 t (omega arith), lt-ltb 0 u q)
+  answer-second p q = rw (le-ltb 0 t₁ (omega arith), lt-ltb 0 t₂ q)
 
-  pub answer-both : 0 < t → 0 < u → answer c t d u ≡ Both (pointOf (share c t) (share d u))
+  pub answer-both : 0 < t₁ → 0 < t₂ → answer c₁ t₁ c₂ t₂ ≡ Both (pointOf (share c₁ t₁) (share c₂ t₂))
   unfolding answer
-  answer-both p q = rw (lt-ltb 0 t p, lt-ltb 0 u q)
+  answer-both p q = rw (lt-ltb 0 t₁ p, lt-ltb 0 t₂ q)
 
 -- of a context that the sitting does not hold
 pub chart-unheld : (x : Sitting) (s : List ℕ) (a : ℕ) → isHeld x s ≡ false → chartOf x s a ≡ Neither

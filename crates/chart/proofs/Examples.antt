@@ -3,7 +3,7 @@ use mathlib.Core.Path.{_≡_, refl}
 use mathlib.Core.Bool.{true, false}
 use mathlib.Core.List.{List, [], _∷_}
 use Prim.Native.Nat.{ℕ}
-use lib.IntN.{pos, negsuc}
+use lib.IntN.{negsuc}
 use lib.Ieee.{Float, fin, div, ofInt, sub}
 use Rattle.numbers.specs.Sum.{sum}
 use Rattle.contexts.specs.Counts.{N}

@@ -1,12 +1,12 @@
 -- Equal shares have the gap +0.0. Assumes nothing.
-use mathlib.Core.Path.{_≡_, refl, sym, ap, _∙_}
+use mathlib.Core.Path.{_≡_, sym, _∙_}
 use mathlib.Core.Bool.{Bool, true, false}
 use Prim.Native.Nat.{ℕ, _*_, _-_, _≤_, _<_}
 use native.Mathlib.Nat.{le-refl, mul-pos}
 use native.Mathlib.Omega.{arith}
-use lib.Dec.{T, lit<, ltb}
-use lib.IntN.{ℤ, pos}
-use lib.Ieee.{Float, nan, inf, fin, binary64, up, down, round, sum, add, neg, sub, lt, eq, le}
+use lib.Dec.{T, lit<}
+use lib.IntN.{ℤ}
+use lib.Ieee.{Float, nan, inf, fin, binary64, up, down, round, sum, add, neg, sub, le}
 use lib.Ieee.Fits.{down-pos}
 use lib.Ieee.Scale.{round-same}
 use borrow.Author.Tests.{le-ltb}
@@ -36,12 +36,16 @@ gap-itself (inf true) l h = absurd l
 gap-itself (inf false) l h = absurd h
 gap-itself (fin s m e) l h = less-itself s m e
 
--- ---- a count c of a total t in the first sample, and d of u in the second
-module _ (c t d u : ℕ) (part : c ≤ t) (some : 0 < t) (most : t ≤ mostCharted) (part′ : d ≤ u) (some′ : 0 < u) (most′ : u ≤ mostCharted) where
-  -- equal fractions have equal shares
-  pub same-share : c * u ≡ d * t → share c t ≡ share d u
-  same-share e = share-is c t part some most ∙ round-same binary64 false c t d u some some′ e ∙ sym (share-is d u part′ some′ most′)
+-- THEOREM. Equal counts and totals have the gap +0.0
+pub gap-same : (c t : ℕ) → c ≤ t → 0 < t → t ≤ mostCharted → pointOf (share c t) (share c t) .gap ≡ zero64
+gap-same c t part some most = let p = share-proper c t part some most in gap-itself (share c t) (p .low) (p .high)
 
-  -- THEOREM. The gap of equal fractions, and so of equal counts and totals, is +0.0
-  pub gap-none : c * u ≡ d * t → pointOf (share c t) (share d u) .gap ≡ zero64
-  gap-none e = rw (← same-share e) (let p = share-proper c t part some most in gap-itself (share c t) (p .low) (p .high))
+-- equal fractions have equal shares ..
+pub same-share : (c₁ t₁ c₂ t₂ : ℕ) → c₁ ≤ t₁ → 0 < t₁ → t₁ ≤ mostCharted → c₂ ≤ t₂ → 0 < t₂ → t₂ ≤ mostCharted → c₁ * t₂ ≡ c₂ * t₁
+    → share c₁ t₁ ≡ share c₂ t₂
+same-share c₁ t₁ c₂ t₂ p₁ s₁ m₁ p₂ s₂ m₂ e = share-is c₁ t₁ p₁ s₁ m₁ ∙ round-same binary64 false c₁ t₁ c₂ t₂ s₁ s₂ e ∙ sym (share-is c₂ t₂ p₂ s₂ m₂)
+
+-- THEOREM. .. and so the gap +0.0
+pub gap-none : (c₁ t₁ c₂ t₂ : ℕ) → c₁ ≤ t₁ → 0 < t₁ → t₁ ≤ mostCharted → c₂ ≤ t₂ → 0 < t₂ → t₂ ≤ mostCharted → c₁ * t₂ ≡ c₂ * t₁
+    → pointOf (share c₁ t₁) (share c₂ t₂) .gap ≡ zero64
+gap-none c₁ t₁ c₂ t₂ p₁ s₁ m₁ p₂ s₂ m₂ e = rw (← same-share c₁ t₁ c₂ t₂ p₁ s₁ m₁ p₂ s₂ m₂ e) (gap-same c₁ t₁ p₁ s₁ m₁)

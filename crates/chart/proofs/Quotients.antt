@@ -1,10 +1,10 @@
 -- Quotients of two whole numbers in a float format: the casts are exact, and the quotient is the fraction rounded once. Assumes nothing.
 use mathlib.Core.Path.{_≡_, sym, _∙_}
-use mathlib.Core.Bool.{Bool, true, false, cond, true≢false}
+use mathlib.Core.Bool.{true, false, true≢false}
 use Prim.Native.Nat.{ℕ, _*_, _^_, _≤_, _<_}
 use native.Mathlib.Nat.{mul-one, mul-comm, mul-assoc, mul-left-comm, mul-pos}
 use native.Mathlib.Omega.{arith}
-use lib.Dec.{T, eqb, eqb→eq, ltb→lt}
+use lib.Dec.{ltb→lt}
 use lib.IntN.{pos}
 use lib.Ieee.{Float, nan, inf, fin, Format, prec, up, down, round, ofInt, div}
 use lib.Ieee.Fits.{up-pos, down-pos}
@@ -12,13 +12,7 @@ use lib.Ieee.Exact.{HasValue}
 use lib.Ieee.Back.{round-whole}
 use lib.Ieee.Scale.{round-same}
 use lib.Ieee.Positive.{positive-of-value}
-
-not-zero : (n : ℕ) → 0 < n → n ≡ 0 → ⊥
-not-zero n h e = omega arith
-
-picked : (b : Bool) (x : Float) {y z : Float} → (T b → ⊥) → y ≡ z → cond b x y ≡ z
-picked true x k e = absurd (k tt)
-picked false x k e = e
+use borrow.Author.Tests.{ne-eqb}
 
 cross : (x y a b u v : ℕ) → x * 1 ≡ a * u → y * 1 ≡ b * v → x * v * b ≡ a * (y * u)
 cross x y a b u v p q = simp (sym (mul-one x) ∙ p, sym (mul-one y) ∙ q, mul-assoc, mul-comm, mul-left-comm)
@@ -34,7 +28,7 @@ div-at f (fin true m e) (fin t n d) a b p q B = absurd (true≢false (p .0))
 div-at f (fin false m e) (fin true n d) a b p q B = absurd (true≢false (q .0))
 div-at f (fin false m e) (fin false n d) a b p q B =
     let N : 0 < n = ltb→lt 0 n (positive-of-value (fin false n d) b 1 q B) in
-    picked (eqb n 0) (cond (eqb m 0) nan (inf false)) (λ (t : T (eqb n 0)). not-zero n N (eqb→eq n 0 t))
+    rw (ne-eqb n 0 (λ z. omega arith))
     (round-same f false (m * up e * down d) (n * up d * down e) a b (mul-pos (mul-pos N (up-pos d)) (down-pos e)) B
     (cross (m * up e) (n * up d) a b (down e) (down d) (p .1) (q .1)))
 

@@ -1,5 +1,5 @@
 -- What a share is: exact casts, a value from 0 to 1, and the two ends reached only by the counts 0 and the total. Assumes nothing.
-use mathlib.Core.Path.{_≡_, refl, _∙_, subst}
+use mathlib.Core.Path.{_≡_, refl, _∙_}
 use mathlib.Core.Bool.{false}
 use mathlib.Core.Logic.{inl, inr}
 use mathlib.Core.List.{List}
@@ -8,7 +8,7 @@ use native.Mathlib.Nat.{eq-zero-or-pos, eq-or-lt-of-le, le-trans}
 use native.Mathlib.Omega.{arith}
 use lib.Dec.{T, lit≤, lit<}
 use lib.IntN.{pos}
-use lib.Ieee.{Float, binary64, round, ofInt, le}
+use lib.Ieee.{binary64, round, ofInt, le}
 use lib.Ieee.Exact.{HasValue}
 use lib.Ieee.Order.{round-mono}
 use lib.Ieee.Scale.{round-same}
@@ -66,13 +66,13 @@ module _ (c t : ℕ) (part : c ≤ t) (some : 0 < t) (most : t ≤ mostCharted) 
   zero-only : round binary64 false c t ≡ zero64 → c ≡ 0
   zero-only e = elim (eq-zero-or-pos c) [
     | inl z ↦ z
-    | inr p ↦ absurd (above-zero (subst (λ (z : Float). T (le (round binary64 false 1 mostCharted) z)) e (round-mono binary64 1 mostCharted c t (lit< tt) some (omega arith))))
+    | inr p ↦ absurd (above-zero (rw e at (round-mono binary64 1 mostCharted c t (lit< tt) some (omega arith))))
   ]
 
   one-only : round binary64 false c t ≡ one64 → c ≡ t
   one-only e = elim (eq-or-lt-of-le part) [
     | inl z ↦ z
-    | inr p ↦ absurd (below-one (subst (λ (z : Float). T (le z (round binary64 false (mostCharted - 1) mostCharted))) e (round-mono binary64 c t (mostCharted - 1) mostCharted some (lit< tt) (omega arith))))
+    | inr p ↦ absurd (below-one (rw e at (round-mono binary64 c t (mostCharted - 1) mostCharted some (lit< tt) (omega arith))))
   ]
 
   -- THEOREM. A share lies from 0 to 1; it is 0 exactly when the count is 0, and 1 exactly when the count is the total

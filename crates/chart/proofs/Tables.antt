@@ -22,18 +22,18 @@ eight-at c (suc (suc (suc (suc (suc (suc zero)))))) l = refl
 eight-at c (suc (suc (suc (suc (suc (suc (suc zero))))))) l = refl
 eight-at c (suc (suc (suc (suc (suc (suc (suc (suc a)))))))) l = absurd (omega arith)
 
--- ---- a sitting with no count from A up, and one of its contexts
-module _ (x : Sitting) (s : List ℕ) (few : x .symbols ≤ mostSymbols) (none : (i : Sample) (a : ℕ) → x .symbols ≤ a → x .count i s a ≡ 0) where
-  pub table-count : (i : Sample) (a : ℕ) → a < mostSymbols → countIn (table x s) i a ≡ x .count i s a
-  table-count first a l = eight-at (x .count first s) a l
-  table-count second a l = eight-at (x .count second s) a l
+pub table-count : (x : Sitting) (s : List ℕ) (i : Sample) (a : ℕ) → a < mostSymbols → countIn (table x s) i a ≡ x .count i s a
+table-count x s first a l = eight-at (x .count first s) a l
+table-count x s second a l = eight-at (x .count second s) a l
 
+-- ---- a context of a sitting that has no count from A up
+module _ (x : Sitting) (s : List ℕ) (few : x .symbols ≤ mostSymbols) (none : (i : Sample) (a : ℕ) → x .symbols ≤ a → x .count i s a ≡ 0) where
   pub table-total : (i : Sample) → sum mostSymbols (countIn (table x s) i) ≡ totalIn x i s
-  table-total i = sum-cong mostSymbols (table-count i) ∙ sum-past (x .symbols) mostSymbols (x .count i s) few (none i)
+  table-total i = sum-cong mostSymbols (table-count x s i) ∙ sum-past (x .symbols) mostSymbols (x .count i s) few (none i)
 
   -- THEOREM. The answer by the context's table is the sitting's
   pub table-chart : (a : ℕ) → a < mostSymbols → chartIn (table x s) a ≡ chartOf x s a
-  table-chart a l = rw (table-count first a l, table-count second a l, table-total first, table-total second)
+  table-chart a l = rw (table-count x s first a l, table-count x s second a l, table-total first, table-total second)
 
   -- what the code asks of a table, where both totals are within the limit
   pub table-askable : (a : ℕ) → a < mostSymbols → ((i : Sample) → totalIn x i s ≤ mostCharted) → Askable (table x s) a

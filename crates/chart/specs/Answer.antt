@@ -25,9 +25,9 @@ told true false x y = First x
 told false true x y = Second y
 told true true x y = Both (pointOf x y)
 
--- where the symbol's count is c of a total t in the first sample, and d of u in the second; a sample with a total of 0 did not see the context
+-- from the symbol's count c and the total t in each sample: a sample with a total of 0 did not see the context
 unfoldable pub answer : ℕ → ℕ → ℕ → ℕ → Chart
-answer c t d u = told (ltb 0 t) (ltb 0 u) (share c t) (share d u)
+answer c₁ t₁ c₂ t₂ = told (ltb 0 t₁) (ltb 0 t₂) (share c₁ t₁) (share c₂ t₂)
 
 -- for the symbol a, from the counts that each sample has of A symbols in one context
 abbrev pub chartFrom : ℕ → (Sample → ℕ → ℕ) → ℕ → Chart

@@ -22,31 +22,33 @@ pub enum Chart {
     Both(Point),
 }
 
+const SYMBOLS: usize = 8;
+
 // The answer for a symbol in the context with these counts.
 pub fn chart_of(counts: [[u32; 8]; 2], symbol: u32) -> Chart
     requires { ⌜ Askable counts symbol ⌝ }
     ensures { λ r. ⌜ r ≡ chartIn counts symbol ⌝ }
 {
-    let x = counts[0];
-    let y = counts[1];
+    let first = counts[0];
+    let second = counts[1];
     let a = symbol as usize;
-    compared(x[a], total_of(x), y[a], total_of(y))
+    compared(first[a], total_of(first), second[a], total_of(second))
 }
 
-// A count c of a total t in the first sample, and d of u in the second. A sample with a total of 0 did not see the context.
-fn compared(c: u32, t: u32, d: u32, u: u32) -> Chart
-    ensures { λ r. ⌜ r ≡ answer c t d u ⌝ }
+// By the count c and the total t in each sample. A sample with a total of 0 did not see the context.
+fn compared(c1: u32, t1: u32, c2: u32, t2: u32) -> Chart
+    ensures { λ r. ⌜ r ≡ answer c1 t1 c2 t2 ⌝ }
 {
-    if t == 0 {
-        if u == 0 {
+    if t1 == 0 {
+        if t2 == 0 {
             return Chart::Neither;
         }
-        return Chart::Second(share_of(d, u));
+        return Chart::Second(share_of(c2, t2));
     }
-    if u == 0 {
-        return Chart::First(share_of(c, t));
+    if t2 == 0 {
+        return Chart::First(share_of(c1, t1));
     }
-    Chart::Both(point_of(share_of(c, t), share_of(d, u)))
+    Chart::Both(point_of(share_of(c1, t1), share_of(c2, t2)))
 }
 
 fn point_of(first: f64, second: f64) -> Point
@@ -73,7 +75,7 @@ fn total_of(row: [u32; 8]) -> u32
 {
     let mut total: u32 = 0;
     let mut a: usize = 0;
-    while a < 8 {
+    while a < SYMBOLS {
         total += row[a];
         a += 1;
     }

@@ -7,11 +7,11 @@ use Rattle.chart.specs.Answer.{answer, countIn}
 use Rattle.chart.proofs.chart_of.Statement.{statement}
 use Rattle.chart.proofs.chart_of.Tie as tie
 
-array-copy-out-x : tie.Need-array-copy-out-x
-array-copy-out-x c = search needs
+array-copy-out-first : tie.Need-array-copy-out-first
+array-copy-out-first c = search needs
 
-array-copy-out-y : tie.Need-array-copy-out-y
-array-copy-out-y c = search needs
+array-copy-out-second : tie.Need-array-copy-out-second
+array-copy-out-second c = search needs
 
 mul-compared : tie.Need-mul-compared
 mul-compared c = search needs
@@ -46,8 +46,8 @@ pub chart-of-spec : {M : Type 1} → statement M
 chart-of-spec =
     tie.close
     (tie.spec
-    array-copy-out-x
-    array-copy-out-y
+    array-copy-out-first
+    array-copy-out-second
     mul-compared
     array-read-compared
     total-of-requires
