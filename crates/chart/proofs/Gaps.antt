@@ -1,7 +1,7 @@
 -- Equal shares have the gap +0.0. Assumes nothing.
 use mathlib.Core.Path.{_≡_, sym, _∙_}
 use mathlib.Core.Bool.{Bool, true, false}
-use Prim.Native.Nat.{ℕ, _*_, _-_, _≤_, _<_}
+use Prim.Native.Nat.{ℕ, _*_, _-_, _<_}
 use native.Mathlib.Nat.{le-refl, mul-pos}
 use native.Mathlib.Omega.{arith}
 use lib.Dec.{T, lit<}
@@ -10,7 +10,7 @@ use lib.Ieee.{Float, nan, inf, fin, binary64, up, down, round, sum, add, neg, su
 use lib.Ieee.Fits.{down-pos}
 use lib.Ieee.Scale.{round-same}
 use borrow.Author.Tests.{le-ltb}
-use Rattle.chart.specs.Share.{mostCharted, share, zero64, one64}
+use Rattle.chart.specs.Share.{share, zero64, one64, Charted}
 use Rattle.chart.specs.Answer.{pointOf}
 use Rattle.chart.proofs.Shares.{zero-is, share-is, share-proper}
 
@@ -37,15 +37,13 @@ gap-itself (inf false) l h = absurd h
 gap-itself (fin s m e) l h = less-itself s m e
 
 -- THEOREM. Equal counts and totals have the gap +0.0
-pub gap-same : (c t : ℕ) → c ≤ t → 0 < t → t ≤ mostCharted → pointOf (share c t) (share c t) .gap ≡ zero64
-gap-same c t part some most = let p = share-proper c t part some most in gap-itself (share c t) (p .low) (p .high)
+pub gap-same : {c t : ℕ} → Charted c t → pointOf (share c t) (share c t) .gap ≡ zero64
+gap-same {c} {t} h = let p = share-proper h in gap-itself (share c t) (p .low) (p .high)
 
 -- equal fractions have equal shares ..
-pub same-share : (c₁ t₁ c₂ t₂ : ℕ) → c₁ ≤ t₁ → 0 < t₁ → t₁ ≤ mostCharted → c₂ ≤ t₂ → 0 < t₂ → t₂ ≤ mostCharted → c₁ * t₂ ≡ c₂ * t₁
-    → share c₁ t₁ ≡ share c₂ t₂
-same-share c₁ t₁ c₂ t₂ p₁ s₁ m₁ p₂ s₂ m₂ e = share-is c₁ t₁ p₁ s₁ m₁ ∙ round-same binary64 false c₁ t₁ c₂ t₂ s₁ s₂ e ∙ sym (share-is c₂ t₂ p₂ s₂ m₂)
+pub same-share : {c₁ t₁ c₂ t₂ : ℕ} → Charted c₁ t₁ → Charted c₂ t₂ → c₁ * t₂ ≡ c₂ * t₁ → share c₁ t₁ ≡ share c₂ t₂
+same-share {c₁} {t₁} {c₂} {t₂} h k e = share-is h ∙ round-same binary64 false c₁ t₁ c₂ t₂ (h .seen) (k .seen) e ∙ sym (share-is k)
 
 -- THEOREM. .. and so the gap +0.0
-pub gap-none : (c₁ t₁ c₂ t₂ : ℕ) → c₁ ≤ t₁ → 0 < t₁ → t₁ ≤ mostCharted → c₂ ≤ t₂ → 0 < t₂ → t₂ ≤ mostCharted → c₁ * t₂ ≡ c₂ * t₁
-    → pointOf (share c₁ t₁) (share c₂ t₂) .gap ≡ zero64
-gap-none c₁ t₁ c₂ t₂ p₁ s₁ m₁ p₂ s₂ m₂ e = rw (← same-share c₁ t₁ c₂ t₂ p₁ s₁ m₁ p₂ s₂ m₂ e) (gap-same c₁ t₁ p₁ s₁ m₁)
+pub gap-none : {c₁ t₁ c₂ t₂ : ℕ} → Charted c₁ t₁ → Charted c₂ t₂ → c₁ * t₂ ≡ c₂ * t₁ → pointOf (share c₁ t₁) (share c₂ t₂) .gap ≡ zero64
+gap-none h k e = rw (← same-share h k e) (gap-same h)

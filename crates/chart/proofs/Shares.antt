@@ -14,7 +14,7 @@ use lib.Ieee.Order.{round-mono}
 use lib.Ieee.Scale.{round-same}
 use Rattle.numbers.proofs.Sums.{sum-part}
 use Rattle.contexts.specs.Sitting.{Sample, Sitting, totalIn}
-use Rattle.chart.specs.Share.{mostCharted, share, zero64, one64, Proper}
+use Rattle.chart.specs.Share.{mostCharted, share, zero64, one64, Charted, Proper}
 use Rattle.chart.proofs.Quotients.{cast-exact, quotient-is}
 
 -- ---- 0, 1 and the values next to them, worked out
@@ -46,40 +46,40 @@ pub count-exact : (n : ℕ) → n ≤ mostCharted → HasValue (ofInt binary64 (
 count-exact n h = cast-exact binary64 n (within n h)
 
 -- ---- a count c of a total t
-module _ (c t : ℕ) (part : c ≤ t) (some : 0 < t) (most : t ≤ mostCharted) where
+module _ {c t : ℕ} (h : Charted c t) where
   -- THEOREM. A share is the fraction, rounded once
   pub share-is : share c t ≡ round binary64 false c t
-  share-is = quotient-is binary64 c t (within c (le-trans part most)) (within t most) some
+  share-is = quotient-is binary64 c t (within c (le-trans (h .part) (h .most))) (within t (h .most)) (h .seen)
 
   low : T (le zero64 (round binary64 false c t))
-  low = rw (← zero-is) (round-mono binary64 0 1 c t (lit< tt) some (omega arith))
+  low = rw (← zero-is) (round-mono binary64 0 1 c t (lit< tt) (h .seen) (omega arith))
 
   high : T (le (round binary64 false c t) one64)
-  high = rw (← one-is) (round-mono binary64 c t 1 1 some (lit< tt) (omega arith))
+  high = rw (← one-is) (round-mono binary64 c t 1 1 (h .seen) (lit< tt) (omega arith))
 
   zero-at : c ≡ 0 → round binary64 false c t ≡ zero64
-  zero-at e = round-same binary64 false c t 0 1 some (lit< tt) (omega arith) ∙ zero-is
+  zero-at e = round-same binary64 false c t 0 1 (h .seen) (lit< tt) (omega arith) ∙ zero-is
 
   one-at : c ≡ t → round binary64 false c t ≡ one64
-  one-at e = round-same binary64 false c t 1 1 some (lit< tt) (omega arith) ∙ one-is
+  one-at e = round-same binary64 false c t 1 1 (h .seen) (lit< tt) (omega arith) ∙ one-is
 
   zero-only : round binary64 false c t ≡ zero64 → c ≡ 0
   zero-only e = elim (eq-zero-or-pos c) [
     | inl z ↦ z
-    | inr p ↦ absurd (above-zero (rw e at (round-mono binary64 1 mostCharted c t (lit< tt) some (omega arith))))
+    | inr p ↦ absurd (above-zero (rw e at (round-mono binary64 1 mostCharted c t (lit< tt) (h .seen) (omega arith))))
   ]
 
   one-only : round binary64 false c t ≡ one64 → c ≡ t
-  one-only e = elim (eq-or-lt-of-le part) [
+  one-only e = elim (eq-or-lt-of-le (h .part)) [
     | inl z ↦ z
-    | inr p ↦ absurd (below-one (rw e at (round-mono binary64 c t (mostCharted - 1) mostCharted some (lit< tt) (omega arith))))
+    | inr p ↦ absurd (below-one (rw e at (round-mono binary64 c t (mostCharted - 1) mostCharted (h .seen) (lit< tt) (omega arith))))
   ]
 
   -- THEOREM. A share lies from 0 to 1; it is 0 exactly when the count is 0, and 1 exactly when the count is the total
   pub share-proper : Proper c t (share c t)
   share-proper = rw share-is (record { low = low; high = high; at-zero = (zero-only, zero-at); at-one = (one-only, one-at) })
 
--- THEOREM. So it is of each sample that saw a sitting's context, and each symbol below A
-pub sitting-proper : (x : Sitting) (i : Sample) (s : List ℕ) (a : ℕ) → a < x .symbols → 0 < totalIn x i s → totalIn x i s ≤ mostCharted
-    → Proper (x .count i s a) (totalIn x i s) (share (x .count i s a) (totalIn x i s))
-sitting-proper x i s a l some most = share-proper (x .count i s a) (totalIn x i s) (sum-part (x .symbols) (x .count i s) a l) some most
+-- so it is of every symbol below A, in each sample that saw a sitting's context
+pub sitting-charted : (x : Sitting) (i : Sample) (s : List ℕ) (a : ℕ) → a < x .symbols → 0 < totalIn x i s → totalIn x i s ≤ mostCharted
+    → Charted (x .count i s a) (totalIn x i s)
+sitting-charted x i s a l seen most = record { part = sum-part (x .symbols) (x .count i s) a l; seen = seen; most = most }

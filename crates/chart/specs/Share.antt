@@ -1,5 +1,5 @@
 -- The share of a symbol in a sample's context (document 01, "Chart question"). Assumes nothing.
-use Prim.Native.Nat.{ℕ}
+use Prim.Native.Nat.{ℕ, _≤_, _<_}
 use mathlib.Core.Path.{_≡_}
 use mathlib.Core.Bool.{false}
 use mathlib.Core.Logic.{_↔_}
@@ -21,6 +21,12 @@ zero64 = fin false 0 (pos 0)
 
 abbrev pub one64 : Float
 one64 = fin false 1 (pos 0)
+
+-- a count c of a total t, in a sample that saw the context
+pub record Charted (c t : ℕ) : Type 0 where
+  pub part : c ≤ t
+  pub seen : 0 < t
+  pub most : t ≤ mostCharted
 
 -- "A share lies from 0 to 1; it is 0 exactly when the count is 0 and 1 exactly when the count is the total."
 pub record Proper (c t : ℕ) (r : Float) : Type 0 where
