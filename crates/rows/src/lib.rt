@@ -5,8 +5,8 @@ ghost use Prim.Native.Nat.{ℕ, _+_, _≤_};
 ghost use lib.ListN.{length, drop, getD};
 ghost use lib.Seq.{paste};
 ghost use Rattle.numbers.specs.Limits.{mostSymbols, mostCounted};
-ghost use Rattle.contexts.specs.Sitting.{first, second, eight};
-ghost use Rattle.estimate.specs.Table.{rowIn, countsIn, sumOf};
+ghost use Rattle.contexts.specs.Sitting.{first, second, eight, rowIn, sumOf};
+ghost use Rattle.estimate.specs.Table.{countsIn};
 ghost use Rattle.rows.specs.Rows.{rowWidth, kindOf};
 
 // Writes a row's eleven numbers at the beginning of the part lent.

@@ -1,5 +1,5 @@
 -- `rows::one_by_one` meets its contract. Assumes nothing.
-use Rattle.estimate.proofs.Tables.{eight-same}
+use Rattle.contexts.proofs.Tables.{eight-same}
 use Rattle.rows.proofs.one_by_one.Statement.{statement}
 use Rattle.rows.proofs.one_by_one.Tie as tie
 
