@@ -1,0 +1,154 @@
+-- What is known of a number that was found, and the header at each place where it stops. Assumes nothing.
+use Prim.Native.Nat.{ℕ, zero, suc, _+_, _-_, _*_, _<_, _≤_}
+use mathlib.Core.Path.{_≡_, refl, ap, ap₂, _∙_}
+use mathlib.Core.Bool.{Bool, true, false, cond, _&&_, _||_}
+use mathlib.Core.List.{List, [], _∷_}
+use native.Mathlib.Omega.{arith}
+use lib.ListN.{length, getD, drop, length-drop}
+use lib.Seq.{getD-drop}
+use lib.Dec.{leb, eqb}
+use borrow.Author.Tests.{leb-true, leb-false, eqb-true, eqb-false}
+use Rattle.numbers.specs.Limits.{fewestSymbols, mostSymbols, deepest, longest}
+use Rattle.sitting_file.specs.Format.{joined, judged, secondGroup, firstGroup, numberAt, andThen, headerOf}
+use Rattle.sitting_file.specs.Samples.{InLimits}
+use Rattle.sitting_file.specs.declared.Shape.{Shape}
+use Rattle.sitting_file.specs.declared.Refusal.{Refusal}
+use Rattle.sitting_file.specs.declared.Refusal.the-variants.{NotShortest, OutsideLimits}
+use Rattle.sitting_file.specs.declared.Number.{Number}
+use Rattle.sitting_file.specs.declared.Number.the-variants.{Value, Fault}
+use Rattle.sitting_file.specs.declared.Heading.{Heading}
+use Rattle.sitting_file.specs.declared.Heading.the-variants.{Whole, Faulty}
+
+-- ---- a number that was found
+
+-- v is within its limits and takes one or two of the bytes from a place on; one where it is below 128, and v is then that byte
+pub record Found (low high at v next : ℕ) (bytes : List ℕ) : Type 0 where
+  pub low-kept : low ≤ v
+  pub high-kept : v ≤ high
+  pub width-low : at < next
+  pub width-high : next ≤ at + 2
+  pub ends : next ≤ at + length bytes
+  pub single : v < 128 → (next ≡ at + 1) × (v ≡ getD bytes 0 0)
+
+never : {A : Type 0} {why : Refusal} {v next : ℕ} → Fault why ≡ Value v next → A
+never e =
+    let z : _≡_ {A = ℕ} 0 1 = cc in
+    absurd (omega arith)
+
+-- a number that passed its limits is the one that was judged
+judged-found : (low high v next w end : ℕ) → judged low high v next ≡ Value w end → (low ≤ v) × (v ≤ high) × (v ≡ w) × (next ≡ end)
+unfolding judged
+judged-found low high v next w end e = go (leb low v) (leb v high) refl refl e
+  where
+    go : (s t : Bool) → leb low v ≡ s → leb v high ≡ t → cond (s && t) (Value v next) (Fault OutsideLimits) ≡ Value w end → (low ≤ v) × (v ≤ high) × (v ≡ w) × (next ≡ end)
+    go true true a b e = (leb-true low v a, leb-true v high b, cc, cc)
+    go true false a b e = never e
+    go false t a b e = never e
+
+module _ (low high at v next b : ℕ) where
+  second-found : (bytes : List ℕ) → 128 ≤ b → secondGroup low high b (at + 1) bytes ≡ Value v next → Found low high at v next (b ∷ bytes)
+  unfolding secondGroup
+  second-found [] big e = never e
+  second-found (c ∷ rest) big e = go (leb 128 c) (eqb c 0) refl e
+    where
+      go : (p q : Bool) → eqb c 0 ≡ q → cond (p || q) (Fault NotShortest) (judged low high (joined b c) (at + 1 + 1)) ≡ Value v next → Found low high at v next (b ∷ c ∷ rest)
+      go true q z e = never e
+      go false true z e = never e
+      go false false z e =
+          let h = judged-found low high (joined b c) (at + 1 + 1) v next e in
+          let nonzero : c ≡ 0 → ⊥ = eqb-false c 0 z in
+          record { low-kept = omega arith; high-kept = omega arith; width-low = omega arith; width-high = omega arith; ends = omega arith; single = λ s. absurd (omega arith) }
+
+first-found : (low high at v next : ℕ) (bytes : List ℕ) → firstGroup low high at bytes ≡ Value v next → Found low high at v next bytes
+unfolding firstGroup
+first-found low high at v next [] e = never e
+first-found low high at v next (b ∷ rest) e = go (leb 128 b) refl e
+  where
+    go : (p : Bool) → leb 128 b ≡ p → cond p (secondGroup low high b (at + 1) rest) (judged low high b (at + 1)) ≡ Value v next → Found low high at v next (b ∷ rest)
+    go true a e = second-found low high at v next b rest (leb-true 128 b a) e
+    go false a e =
+        let h = judged-found low high b (at + 1) v next e in
+        record { low-kept = omega arith; high-kept = omega arith; width-low = omega arith; width-high = omega arith; ends = omega arith; single = λ s. (omega arith, omega arith) }
+
+pub number-found : (file : List ℕ) (at low high v next : ℕ) → numberAt file at low high ≡ Value v next → Found low high at v next (drop at file)
+number-found file at low high v next e = first-found low high at v next (drop at file) e
+
+-- ---- the header, as far as it was read
+
+module _ (file : List ℕ) where
+  pub alphabet-refused : (why : Refusal) → numberAt file 0 fewestSymbols mostSymbols ≡ Fault why → headerOf file ≡ Faulty why
+  unfolding headerOf
+  alphabet-refused why e = rw e
+
+  module _ (A at₁ : ℕ) (e₁ : numberAt file 0 fewestSymbols mostSymbols ≡ Value A at₁) where
+    pub depth-refused : (why : Refusal) → numberAt file at₁ 0 deepest ≡ Fault why → headerOf file ≡ Faulty why
+    unfolding headerOf
+    depth-refused why e = rw (e₁, e)
+
+    module _ (D at₂ : ℕ) (e₂ : numberAt file at₁ 0 deepest ≡ Value D at₂) where
+      pub first-refused : (why : Refusal) → numberAt file at₂ 0 longest ≡ Fault why → headerOf file ≡ Faulty why
+      unfolding headerOf
+      first-refused why e = rw (e₁, e₂, e)
+
+      module _ (n at₃ : ℕ) (e₃ : numberAt file at₂ 0 longest ≡ Value n at₃) where
+        pub second-refused : (why : Refusal) → numberAt file at₃ 0 longest ≡ Fault why → headerOf file ≡ Faulty why
+        unfolding headerOf
+        second-refused why e = rw (e₁, e₂, e₃, e)
+
+        pub header-whole : (m at₄ : ℕ) → numberAt file at₃ 0 longest ≡ Value m at₄ → headerOf file ≡ Whole (record { alphabet = A; depth = D; first = n; second = m }) at₄
+        unfolding headerOf
+        header-whole m at₄ e = rw (e₁, e₂, e₃, e)
+
+-- what went on to a whole header has found its number
+record Went (x : Number) (go : ℕ → ℕ → Heading) (shape : Shape) (at : ℕ) : Type 0 where
+  v : ℕ
+  next : ℕ
+  here : x ≡ Value v next
+  on : go v next ≡ Whole shape at
+
+went : (x : Number) (go : ℕ → ℕ → Heading) (shape : Shape) (at : ℕ) → andThen x Faulty go ≡ Whole shape at → Went x go shape at
+went (Value v next) go shape at e = record { v = v; next = next; here = refl; on = e }
+went (Fault why) go shape at e =
+    let z : _≡_ {A = ℕ} 0 1 = cc in
+    absurd (omega arith)
+
+whole-same : {s t : Shape} {i j : ℕ} → Whole s i ≡ Whole t j → (s ≡ t) × (i ≡ j)
+whole-same e = (cc, cc)
+
+module _ (file : List ℕ) (shape : Shape) (at : ℕ) where
+  -- the four numbers of a header, one after another
+  pub record FourFound : Type 0 where
+    pub at₁ : ℕ
+    pub at₂ : ℕ
+    pub at₃ : ℕ
+    pub alphabet : numberAt file 0 fewestSymbols mostSymbols ≡ Value (shape .alphabet) at₁
+    pub depth : numberAt file at₁ 0 deepest ≡ Value (shape .depth) at₂
+    pub first : numberAt file at₂ 0 longest ≡ Value (shape .first) at₃
+    pub second : numberAt file at₃ 0 longest ≡ Value (shape .second) at
+
+  pub four-found : headerOf file ≡ Whole shape at → FourFound
+  unfolding headerOf
+  four-found e =
+      let a = went (numberAt file 0 fewestSymbols mostSymbols) _ shape at e in
+      let d = went (numberAt file (a .next) 0 deepest) _ shape at (a .on) in
+      let n = went (numberAt file (d .next) 0 longest) _ shape at (d .on) in
+      let m = went (numberAt file (n .next) 0 longest) _ shape at (n .on) in
+      let same = whole-same (m .on) in
+      record {
+        at₁ = a .next;
+        at₂ = d .next;
+        at₃ = n .next;
+        alphabet = a .here ∙ ap (λ (s : Shape). Value (s .alphabet) (a .next)) (same .0);
+        depth = d .here ∙ ap (λ (s : Shape). Value (s .depth) (d .next)) (same .0);
+        first = n .here ∙ ap (λ (s : Shape). Value (s .first) (n .next)) (same .0);
+        second = m .here ∙ ap₂ (λ (s : Shape) (i : ℕ). Value (s .second) i) (same .0) (same .1);
+      }
+
+  pub header-limits : headerOf file ≡ Whole shape at → InLimits shape
+  header-limits e =
+      let f = four-found e in
+      let a = number-found file 0 fewestSymbols mostSymbols (shape .alphabet) (f .at₁) (f .alphabet) in
+      let d = number-found file (f .at₁) 0 deepest (shape .depth) (f .at₂) (f .depth) in
+      let n = number-found file (f .at₂) 0 longest (shape .first) (f .at₃) (f .first) in
+      let m = number-found file (f .at₃) 0 longest (shape .second) at (f .second) in
+      record { alphabet-low = a .low-kept; alphabet-high = a .high-kept; depth-high = d .high-kept; first-high = n .high-kept; second-high = m .high-kept }
