@@ -1,4 +1,4 @@
--- What is known of a number that was found, and the header at each place where it stops. Assumes nothing.
+-- The header at each place where it stops. Assumes nothing.
 use Prim.Native.Nat.{ℕ, zero, suc, _+_, _-_, _*_, _<_, _≤_}
 use mathlib.Core.Path.{_≡_, refl, ap, ap₂, _∙_}
 use mathlib.Core.Bool.{Bool, true, false, cond, _&&_, _||_}
@@ -11,6 +11,7 @@ use borrow.Author.Tests.{leb-true, leb-false, eqb-true, eqb-false}
 use Rattle.numbers.specs.Limits.{fewestSymbols, mostSymbols, deepest, longest}
 use Rattle.sitting_file.specs.Format.{joined, judged, secondGroup, firstGroup, numberAt, andThen, headerOf}
 use Rattle.sitting_file.specs.Samples.{InLimits}
+use Rattle.sitting_file.proofs.Groups.{Found, number-found}
 use Rattle.sitting_file.specs.declared.Shape.{Shape}
 use Rattle.sitting_file.specs.declared.Refusal.{Refusal}
 use Rattle.sitting_file.specs.declared.Refusal.the-variants.{NotShortest, OutsideLimits}
@@ -18,60 +19,6 @@ use Rattle.sitting_file.specs.declared.Number.{Number}
 use Rattle.sitting_file.specs.declared.Number.the-variants.{Value, Fault}
 use Rattle.sitting_file.specs.declared.Heading.{Heading}
 use Rattle.sitting_file.specs.declared.Heading.the-variants.{Whole, Faulty}
-
--- ---- a number that was found
-
--- v is within its limits and takes one or two of the bytes from a place on; one where it is below 128, and v is then that byte
-pub record Found (low high at v next : ℕ) (bytes : List ℕ) : Type 0 where
-  pub low-kept : low ≤ v
-  pub high-kept : v ≤ high
-  pub width-low : at < next
-  pub width-high : next ≤ at + 2
-  pub ends : next ≤ at + length bytes
-  pub single : v < 128 → (next ≡ at + 1) × (v ≡ getD bytes 0 0)
-
-never : {A : Type 0} {why : Refusal} {v next : ℕ} → Fault why ≡ Value v next → A
-never e =
-    let z : _≡_ {A = ℕ} 0 1 = cc in
-    absurd (omega arith)
-
--- a number that passed its limits is the one that was judged
-judged-found : (low high v next w end : ℕ) → judged low high v next ≡ Value w end → (low ≤ v) × (v ≤ high) × (v ≡ w) × (next ≡ end)
-unfolding judged
-judged-found low high v next w end e = go (leb low v) (leb v high) refl refl e
-  where
-    go : (s t : Bool) → leb low v ≡ s → leb v high ≡ t → cond (s && t) (Value v next) (Fault OutsideLimits) ≡ Value w end → (low ≤ v) × (v ≤ high) × (v ≡ w) × (next ≡ end)
-    go true true a b e = (leb-true low v a, leb-true v high b, cc, cc)
-    go true false a b e = never e
-    go false t a b e = never e
-
-module _ (low high at v next b : ℕ) where
-  second-found : (bytes : List ℕ) → 128 ≤ b → secondGroup low high b (at + 1) bytes ≡ Value v next → Found low high at v next (b ∷ bytes)
-  unfolding secondGroup
-  second-found [] big e = never e
-  second-found (c ∷ rest) big e = go (leb 128 c) (eqb c 0) refl e
-    where
-      go : (p q : Bool) → eqb c 0 ≡ q → cond (p || q) (Fault NotShortest) (judged low high (joined b c) (at + 1 + 1)) ≡ Value v next → Found low high at v next (b ∷ c ∷ rest)
-      go true q z e = never e
-      go false true z e = never e
-      go false false z e =
-          let h = judged-found low high (joined b c) (at + 1 + 1) v next e in
-          let nonzero : c ≡ 0 → ⊥ = eqb-false c 0 z in
-          record { low-kept = omega arith; high-kept = omega arith; width-low = omega arith; width-high = omega arith; ends = omega arith; single = λ s. absurd (omega arith) }
-
-first-found : (low high at v next : ℕ) (bytes : List ℕ) → firstGroup low high at bytes ≡ Value v next → Found low high at v next bytes
-unfolding firstGroup
-first-found low high at v next [] e = never e
-first-found low high at v next (b ∷ rest) e = go (leb 128 b) refl e
-  where
-    go : (p : Bool) → leb 128 b ≡ p → cond p (secondGroup low high b (at + 1) rest) (judged low high b (at + 1)) ≡ Value v next → Found low high at v next (b ∷ rest)
-    go true a e = second-found low high at v next b rest (leb-true 128 b a) e
-    go false a e =
-        let h = judged-found low high b (at + 1) v next e in
-        record { low-kept = omega arith; high-kept = omega arith; width-low = omega arith; width-high = omega arith; ends = omega arith; single = λ s. (omega arith, omega arith) }
-
-pub number-found : (file : List ℕ) (at low high v next : ℕ) → numberAt file at low high ≡ Value v next → Found low high at v next (drop at file)
-number-found file at low high v next e = first-found low high at v next (drop at file) e
 
 -- ---- the header, as far as it was read
 
@@ -147,8 +94,8 @@ module _ (file : List ℕ) (shape : Shape) (at : ℕ) where
   pub header-limits : headerOf file ≡ Whole shape at → InLimits shape
   header-limits e =
       let f = four-found e in
-      let a = number-found file 0 fewestSymbols mostSymbols (shape .alphabet) (f .at₁) (f .alphabet) in
-      let d = number-found file (f .at₁) 0 deepest (shape .depth) (f .at₂) (f .depth) in
-      let n = number-found file (f .at₂) 0 longest (shape .first) (f .at₃) (f .first) in
-      let m = number-found file (f .at₃) 0 longest (shape .second) at (f .second) in
+      let a = number-found fewestSymbols mostSymbols 0 (shape .alphabet) (f .at₁) file (f .alphabet) in
+      let d = number-found 0 deepest (f .at₁) (shape .depth) (f .at₂) file (f .depth) in
+      let n = number-found 0 longest (f .at₂) (shape .first) (f .at₃) file (f .first) in
+      let m = number-found 0 longest (f .at₃) (shape .second) at file (f .second) in
       record { alphabet-low = a .low-kept; alphabet-high = a .high-kept; depth-high = d .high-kept; first-high = n .high-kept; second-high = m .high-kept }
