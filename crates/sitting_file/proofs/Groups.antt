@@ -1,11 +1,13 @@
 -- A number in the bytes from a place on, and what reading it tells: the one case analysis of `numberAt`. Assumes nothing.
-use Prim.Native.Nat.{ℕ, _+_, _<_, _≤_}
-use mathlib.Core.Path.{_≡_, refl}
+use Prim.Native.Nat.{ℕ, suc, _+_, _-_, _<_, _≤_}
+use mathlib.Core.Path.{_≡_, refl, sym, ap, _∙_}
 use mathlib.Core.Logic.{_⊎_, inl, inr}
 use mathlib.Core.Bool.{Bool, true, false, cond, _&&_, _||_}
 use mathlib.Core.List.{List, [], _∷_}
+use native.Mathlib.Nat.{add-zero}
 use native.Mathlib.Omega.{arith}
-use lib.ListN.{length, getD, drop}
+use lib.ListN.{length, getD, drop, length-drop}
+use lib.Seq.{getD-drop}
 use lib.Dec.{leb, eqb}
 use borrow.Author.Tests.{leb-true, leb-false, eqb-true, eqb-false}
 use Rattle.sitting_file.specs.Format.{highBit, joined, judged, secondGroup, firstGroup, numberAt}
@@ -60,35 +62,39 @@ module _ (low high at : ℕ) where
 
 -- ---- a number that was found
 
--- it takes one or two bytes; one where it is below 128, and it is then that byte
-pub record Found (low high at v next : ℕ) (bytes : List ℕ) : Type 0 where
+-- it takes one or two bytes of the file; one where it is below 128, and it is then that byte
+pub record Found (low high at v next : ℕ) (file : List ℕ) : Type 0 where
   pub low-kept : low ≤ v
   pub high-kept : v ≤ high
   pub width-low : at < next
   pub width-high : next ≤ at + 2
-  pub ends : next ≤ at + length bytes
-  pub single : v < highBit → (next ≡ at + 1) × (v ≡ getD bytes 0 0)
+  pub ends : next ≤ length file
+  pub single : v < highBit → (next ≡ at + 1) × (v ≡ getD file at 0)
 
 never : {A : Type 0} {why : Refusal} {v next : ℕ} → Fault why ≡ Value v next → A
 never e =
     let z : _≡_ {A = ℕ} 0 1 = cc in
     absurd (omega arith)
 
-same : {v w i j : ℕ} → Value v i ≡ Value w j → (v ≡ w) × (i ≡ j)
-same e = (cc, cc)
+value-same : {v w i j : ℕ} → Value v i ≡ Value w j → (v ≡ w) × (i ≡ j)
+value-same e = (cc, cc)
 
-module _ (low high at v next : ℕ) where
-  told-found : {bytes : List ℕ} {n : Number} → Told low high at bytes n → n ≡ Value v next → Found low high at v next bytes
-  told-found no-group e = never e
-  told-found (half big) e = never e
-  told-found (not-short big f) e = never e
-  told-found (outside s f) e = never e
-  told-found (inside (one small) l h) e =
-      let t = same e in
+module _ (low high at v next : ℕ) (file : List ℕ) where
+  told-found : {bytes : List ℕ} {n : Number} → Told low high at bytes n → n ≡ Value v next → drop at file ≡ bytes → Found low high at v next file
+  told-found no-group e d = never e
+  told-found (half big) e d = never e
+  told-found (not-short big f) e d = never e
+  told-found (outside s f) e d = never e
+  told-found (inside (one {v = w} {rest} small) l h) e d =
+      let t = value-same e in
+      let long : length file - at ≡ suc (length rest) = sym (length-drop at file) ∙ ap length d in
+      let byte : getD file (at + 0) 0 ≡ w = sym (getD-drop at file 0 0) ∙ ap (λ (l : List ℕ). getD l 0 0) d in
+      let first : getD file at 0 ≡ w = ap (λ (k : ℕ). getD file k 0) (sym (add-zero at)) ∙ byte in
       record { low-kept = omega arith; high-kept = omega arith; width-low = omega arith; width-high = omega arith; ends = omega arith; single = λ _. (omega arith, omega arith) }
-  told-found (inside (two big low-c high-c) l h) e =
-      let t = same e in
+  told-found (inside (two {b} {c} {rest} big low-c high-c) l h) e d =
+      let t = value-same e in
+      let long : length file - at ≡ suc (suc (length rest)) = sym (length-drop at file) ∙ ap length d in
       record { low-kept = omega arith; high-kept = omega arith; width-low = omega arith; width-high = omega arith; ends = omega arith; single = λ s. absurd (omega arith) }
 
-  pub number-found : (file : List ℕ) → numberAt file at low high ≡ Value v next → Found low high at v next (drop at file)
-  number-found file e = told-found (tells low high at (drop at file)) e
+  pub number-found : numberAt file at low high ≡ Value v next → Found low high at v next file
+  number-found e = told-found (tells low high at (drop at file)) e refl

@@ -6,3 +6,7 @@ pub mod Written
 pub mod AnswerTrue
 pub mod AnswerOnly
 pub mod Answers
+pub mod AcceptedFile
+pub mod Rewritten
+pub mod LongInput
+pub mod Examples

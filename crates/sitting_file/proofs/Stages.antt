@@ -10,7 +10,7 @@ use lib.Dec.{leb, eqb}
 use borrow.Author.Tests.{leb-true, leb-false, eqb-true, eqb-false}
 use Rattle.numbers.specs.Limits.{fewestSymbols, mostSymbols, deepest, longest}
 use Rattle.sitting_file.specs.Format.{joined, judged, secondGroup, firstGroup, numberAt, andThen, headerOf}
-use Rattle.sitting_file.specs.Samples.{InLimits}
+use Rattle.sitting_file.specs.Samples.{InLimits, longestHeader}
 use Rattle.sitting_file.proofs.Groups.{Found, number-found}
 use Rattle.sitting_file.specs.declared.Shape.{Shape}
 use Rattle.sitting_file.specs.declared.Refusal.{Refusal}
@@ -91,11 +91,23 @@ module _ (file : List ℕ) (shape : Shape) (at : ℕ) where
         second = m .here ∙ ap₂ (λ (s : Shape) (i : ℕ). Value (s .second) i) (same .0) (same .1);
       }
 
-  pub header-limits : headerOf file ≡ Whole shape at → InLimits shape
-  header-limits e =
+  -- a header that was read: its numbers are within their limits, and it takes at most six bytes of the file
+  pub record HeaderRead : Type 0 where
+    pub limits : InLimits shape
+    pub place : at ≤ longestHeader
+    pub ends : at ≤ length file
+
+  pub header-read : headerOf file ≡ Whole shape at → HeaderRead
+  header-read e =
       let f = four-found e in
       let a = number-found fewestSymbols mostSymbols 0 (shape .alphabet) (f .at₁) file (f .alphabet) in
       let d = number-found 0 deepest (f .at₁) (shape .depth) (f .at₂) file (f .depth) in
       let n = number-found 0 longest (f .at₂) (shape .first) (f .at₃) file (f .first) in
       let m = number-found 0 longest (f .at₃) (shape .second) at file (f .second) in
-      record { alphabet-low = a .low-kept; alphabet-high = a .high-kept; depth-high = d .high-kept; first-high = n .high-kept; second-high = m .high-kept }
+      let one = a .single (omega arith) in
+      let two = d .single (omega arith) in
+      record {
+        limits = record { alphabet-low = a .low-kept; alphabet-high = a .high-kept; depth-high = d .high-kept; first-high = n .high-kept; second-high = m .high-kept };
+        place = omega arith;
+        ends = m .ends;
+      }

@@ -4,7 +4,7 @@ use mathlib.Core.Path.{_≡_, sym, ap, _∙_}
 use denote.Ref.{now}
 use Rattle.sitting_file.specs.Format.{headerOf, bodyOf}
 use Rattle.sitting_file.specs.declared.Heading.the-variants.{Whole}
-use Rattle.sitting_file.proofs.Stages.{header-limits}
+use Rattle.sitting_file.proofs.Stages.{HeaderRead, header-read}
 use Rattle.sitting_file.proofs.read.Statement.{statement}
 use Rattle.sitting_file.proofs.read.Tie as tie
 use Rattle.sitting_file.proofs.read.Reads as reads
@@ -26,7 +26,7 @@ whole : (c : tie.After-known-told2) → let v = c .before .shape .given .0 in he
 whole c = sym (c .before .before .before .header .ensures) ∙ c .before .shape .given .1
 
 symbols-from-requires : tie.Need-symbols-from-requires
-symbols-from-requires c κs = header-limits _ _ _ (whole c)
+symbols-from-requires c κs = header-read _ _ _ (whole c) .limits
 
 returns : tie.Need-returns
 unfolding bodyOf
