@@ -56,9 +56,9 @@ module _ (file : List ℕ) (at low high : ℕ) where
   unfolding secondGroup
   third-group b c h e k = rw (here c h e, le-leb 128 c k)
 
-  pub empty-group : (b c : ℕ) → at < length file → c ≡ getD file at 0 → c < 128 → c ≡ 0 → secondGroup low high b at (drop at file) ≡ Fault NotShortest
+  pub empty-group : (b c : ℕ) → at < length file → c ≡ getD file at 0 → c ≡ 0 → secondGroup low high b at (drop at file) ≡ Fault NotShortest
   unfolding secondGroup
-  empty-group b c h e k z = rw (here c h e, lt-leb 128 c k, eq-eqb c 0 z)
+  empty-group b c h e z = rw (here c h e, lt-leb 128 c (omega arith), eq-eqb c 0 z)
 
   pub both-groups : (b c : ℕ) → at < length file → c ≡ getD file at 0 → c < 128 → (c ≡ 0 → ⊥) → secondGroup low high b at (drop at file) ≡ judged low high (joined b c) (at + 1)
   unfolding secondGroup

@@ -139,13 +139,14 @@ fn number_at(file: &[u8], at: usize, low: u32, high: u32) -> Number
         return Number::Fault(Refusal::EndsEarly);
     }
     let highest = wide(file[next]);
-    if HIGH_BIT <= highest {
-        return Number::Fault(Refusal::NotShortest);
-    }
     if highest == 0 {
         return Number::Fault(Refusal::NotShortest);
     }
-    judged(low, high, lowest - HIGH_BIT + HIGH_BIT * highest, next + 1)
+    if highest < HIGH_BIT {
+        judged(low, high, lowest - HIGH_BIT + HIGH_BIT * highest, next + 1)
+    } else {
+        Number::Fault(Refusal::NotShortest)
+    }
 }
 
 // A number that has been read whole, judged by its limits.

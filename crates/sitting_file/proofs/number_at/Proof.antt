@@ -51,13 +51,7 @@ wide-requires-2 c κs = search needs
 returns-4 : tie.Need-returns-4
 returns-4 c =
     let w = c .before in
-    sym (third-group _ _ _ _ _ (w .wide2 .result) (w .before .before .if3 .left) (w .wide2 .ensures .0) (c .if4 .taken))
-    ∙ second (w .before .before .before)
-
-returns-5 : tie.Need-returns-5
-returns-5 c =
-    let w = c .before .before in
-    sym (empty-group _ _ _ _ _ (w .wide2 .result) (w .before .before .if3 .left) (w .wide2 .ensures .0) (c .before .if4 .left) (c .if5 .taken))
+    sym (empty-group _ _ _ _ _ (w .wide2 .result) (w .before .before .if3 .left) (w .wide2 .ensures .0) (c .if4 .taken))
     ∙ second (w .before .before .before)
 
 mul-judged : tie.Need-mul-judged
@@ -72,11 +66,17 @@ add-judged-2 c = search needs
 judged-requires-2 : tie.Need-judged-requires-2
 judged-requires-2 c κs = search needs
 
-returns-6 : tie.Need-returns-6
-returns-6 c =
+returns-5 : tie.Need-returns-5
+returns-5 c =
     let w = c .before .before .before in
     c .judged2 .ensures
-    ∙ sym (both-groups _ _ _ _ _ (w .wide2 .result) (w .before .before .if3 .left) (w .wide2 .ensures .0) (c .before .before .if4 .left) (c .before .if5 .left))
+    ∙ sym (both-groups _ _ _ _ _ (w .wide2 .result) (w .before .before .if3 .left) (w .wide2 .ensures .0) (c .before .if5 .taken) (c .before .before .if4 .left))
+    ∙ second (w .before .before .before)
+
+returns-6 : tie.Need-returns-6
+returns-6 c =
+    let w = c .before .before in
+    sym (third-group _ _ _ _ _ (w .wide2 .result) (w .before .before .if3 .left) (w .wide2 .ensures .0) (c .if5 .left))
     ∙ second (w .before .before .before)
 
 pub number-at-spec : {M : Type 1} → statement M
@@ -93,9 +93,9 @@ number-at-spec =
     shared-slice-read-wide-2
     wide-requires-2
     returns-4
-    returns-5
     mul-judged
     add-judged
     add-judged-2
     judged-requires-2
+    returns-5
     returns-6)
