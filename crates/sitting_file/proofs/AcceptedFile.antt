@@ -1,16 +1,15 @@
 -- An accepted file's last n + m bytes are its symbols, one each, all below A. Assumes nothing.
 use Prim.Native.Nat.{ℕ, zero, suc, _+_, _-_, _<_, _≤_}
-use mathlib.Core.Path.{_≡_, refl, sym, ap, subst, _∙_}
+use mathlib.Core.Path.{_≡_, refl, ap, subst, _∙_}
 use mathlib.Core.Bool.{Bool, true, false, cond}
-use mathlib.Core.List.{List, [], _∷_, _++_}
+use mathlib.Core.List.{List}
 use native.Mathlib.Omega.{arith}
 use lib.ListN.{length, getD, take, drop, length-drop}
 use lib.Seq.{getD-drop, getD-take, length-take-le}
 use lib.Dec.{ltb}
 use borrow.Author.Tests.{ltb-false}
-use Rattle.numbers.specs.Limits.{fewestSymbols, mostSymbols, deepest, longest}
-use Rattle.sitting_file.specs.Format.{highBit, numberAt, andThen, headerOf, symbolsFrom, bodyOf, readOf}
-use Rattle.sitting_file.specs.Samples.{InLimits, Below, symbolsOf, firstOf, secondOf, longestHeader, longestFile, Holds}
+use Rattle.sitting_file.specs.Format.{numberAt, andThen, headerOf, symbolsFrom, bodyOf, readOf}
+use Rattle.sitting_file.specs.Samples.{InLimits, symbolsOf, longestHeader, Holds}
 use Rattle.sitting_file.specs.declared.Shape.{Shape}
 use Rattle.sitting_file.specs.declared.Refusal.{Refusal}
 use Rattle.sitting_file.specs.declared.Refusal.the-variants.{BytesLeft}
@@ -18,11 +17,10 @@ use Rattle.sitting_file.specs.declared.Number.{Number}
 use Rattle.sitting_file.specs.declared.Number.the-variants.{Value, Fault}
 use Rattle.sitting_file.specs.declared.Heading.{Heading}
 use Rattle.sitting_file.specs.declared.Heading.the-variants.{Whole, Faulty}
-use Rattle.sitting_file.specs.declared.Reading.{Reading}
 use Rattle.sitting_file.specs.declared.Reading.the-variants.{Accepted, Refused}
 use Rattle.numbers.proofs.Orders.{less, same, more, order}
-use Rattle.sitting_file.proofs.Groups.{Found, number-found}
-use Rattle.sitting_file.proofs.Stages.{HeaderRead, header-read}
+use Rattle.sitting_file.proofs.Groups.{number-found}
+use Rattle.sitting_file.proofs.Stages.{header-read}
 
 never : {B : Type 0} {why : Refusal} {shape : Shape} → Refused why ≡ Accepted shape → B
 never e =

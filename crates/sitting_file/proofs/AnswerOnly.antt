@@ -1,6 +1,6 @@
 -- No answer but that of `readOf` is true of the file: numbers within their limits are read, one after another, and a fault is found at its place.
 -- Assumes nothing.
-use Prim.Native.Nat.{ℕ, zero, suc, _+_, _-_, _<_, _≤_}
+use Prim.Native.Nat.{ℕ, _+_, _-_, _<_, _≤_}
 use mathlib.Core.Path.{_≡_, refl, sym, ap, subst, _∙_}
 use mathlib.Core.Bool.{Bool, true, false, cond}
 use mathlib.Core.List.{List, [], _∷_, _++_, append-assoc, append-nil}
@@ -9,14 +9,14 @@ use lib.ListN.{length, drop, length-append}
 use lib.Seq.{drop-append-seam}
 use lib.Dec.{ltb}
 use borrow.Author.Tests.{ltb-true, ltb-false}
-use Rattle.numbers.specs.Limits.{fewestSymbols, mostSymbols, deepest, longest}
+use Rattle.numbers.specs.Limits.{mostSymbols}
 use Rattle.sitting_file.specs.Format.{firstGroup, numberAt, headerOf, symbolsFrom, bodyOf, readOf}
-use Rattle.sitting_file.specs.Verdict.{twoGroups, shortest, written, headed, Due, from-to, nothing, after, Fits, Follow, FaultAt, Verdict}
+use Rattle.sitting_file.specs.Verdict.{twoGroups, shortest, written, headed, from-to, nothing, after, Follow, FaultAt, Verdict}
 use Rattle.sitting_file.specs.declared.Shape.{Shape}
 use Rattle.sitting_file.specs.declared.Refusal.{Refusal}
 use Rattle.sitting_file.specs.declared.Refusal.the-variants.{EndsEarly, NotShortest, OutsideLimits, BytesLeft}
 use Rattle.sitting_file.specs.declared.Number.the-variants.{Value, Fault}
-use Rattle.sitting_file.specs.declared.Heading.the-variants.{Whole, Faulty}
+use Rattle.sitting_file.specs.declared.Heading.the-variants.{Whole}
 use Rattle.sitting_file.specs.declared.Reading.{Reading}
 use Rattle.sitting_file.specs.declared.Reading.the-variants.{Accepted, Refused}
 use Rattle.sitting_file.proofs.Places.{inside, symbol-read, symbol-refused, more-bytes, all-read}

@@ -2,19 +2,19 @@
 -- Reading stays within its first `bytes` bytes, since the header and the symbols together take fewer. Assumes nothing.
 use Prim.Native.Nat.{ℕ, zero, suc, _+_, _-_, _<_, _≤_}
 use mathlib.Core.Path.{_≡_, refl, sym, ap, ap₂, _∙_}
-use mathlib.Core.List.{List, [], _∷_}
+use mathlib.Core.List.{List, _∷_}
 use native.Mathlib.Omega.{arith}
 use native.Mathlib.Numerals.{add-one}
 use lib.ListN.{length, getD, take, drop, length-drop}
 use lib.Seq.{drop-cons, getD-take, length-take-le}
 use borrow.Author.Tests.{lt-ltb}
 use Rattle.numbers.specs.Limits.{fewestSymbols, mostSymbols, deepest, longest}
-use Rattle.sitting_file.specs.Format.{secondGroup, firstGroup, numberAt, andThen, headerOf, symbolsFrom, bodyOf, readOf}
+use Rattle.sitting_file.specs.Format.{secondGroup, firstGroup, numberAt, andThen, headerOf, symbolsFrom, bodyOf}
 use Rattle.sitting_file.specs.Samples.{InLimits, longestHeader, longestFile}
 use Rattle.sitting_file.specs.Input.{inputBytes, ShowsFault}
 use Rattle.sitting_file.specs.declared.Shape.{Shape}
 use Rattle.sitting_file.specs.declared.Refusal.{Refusal}
-use Rattle.sitting_file.specs.declared.Refusal.the-variants.{EndsEarly, NotShortest, OutsideLimits, BytesLeft}
+use Rattle.sitting_file.specs.declared.Refusal.the-variants.{EndsEarly, BytesLeft}
 use Rattle.sitting_file.specs.declared.Number.{Number}
 use Rattle.sitting_file.specs.declared.Number.the-variants.{Value, Fault}
 use Rattle.sitting_file.specs.declared.Heading.{Heading}

@@ -1,6 +1,6 @@
 -- An accepted file is its header's four numbers in their shortest forms and then its symbols, a byte each. Assumes nothing.
 use Prim.Native.Nat.{ℕ, suc, _+_, _-_, _<_, _≤_}
-use mathlib.Core.Path.{_≡_, refl, sym, ap, subst, _∙_}
+use mathlib.Core.Path.{_≡_, refl, sym, ap, _∙_}
 use mathlib.Core.List.{List, [], _∷_, _++_}
 use native.Mathlib.Omega.{arith}
 use lib.ListN.{length, drop, length-append, take-append-drop}
@@ -8,7 +8,7 @@ use lib.Seq.{drop-at}
 use Rattle.numbers.specs.Limits.{mostSymbols}
 use Rattle.sitting_file.specs.Format.{readOf}
 use Rattle.sitting_file.specs.Samples.{Below, symbolsOf, firstOf, secondOf}
-use Rattle.sitting_file.specs.Verdict.{Bytes, shortest, written, headed, OfFormat}
+use Rattle.sitting_file.specs.Verdict.{Bytes, written, headed, OfFormat}
 use Rattle.sitting_file.specs.declared.Shape.{Shape}
 use Rattle.sitting_file.specs.declared.Reading.the-variants.{Accepted}
 use Rattle.sitting_file.proofs.Shortest.{one-byte}

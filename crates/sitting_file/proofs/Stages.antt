@@ -1,20 +1,15 @@
 -- The header at each place where it stops. Assumes nothing.
-use Prim.Native.Nat.{ℕ, zero, suc, _+_, _-_, _*_, _<_, _≤_}
+use Prim.Native.Nat.{ℕ, _-_, _≤_}
 use mathlib.Core.Path.{_≡_, refl, ap, ap₂, _∙_}
-use mathlib.Core.Bool.{Bool, true, false, cond, _&&_, _||_}
-use mathlib.Core.List.{List, [], _∷_}
+use mathlib.Core.List.{List}
 use native.Mathlib.Omega.{arith}
-use lib.ListN.{length, getD, drop, length-drop}
-use lib.Seq.{getD-drop}
-use lib.Dec.{leb, eqb}
-use borrow.Author.Tests.{leb-true, leb-false, eqb-true, eqb-false}
+use lib.ListN.{length}
 use Rattle.numbers.specs.Limits.{fewestSymbols, mostSymbols, deepest, longest}
-use Rattle.sitting_file.specs.Format.{joined, judged, secondGroup, firstGroup, numberAt, andThen, headerOf}
+use Rattle.sitting_file.specs.Format.{numberAt, andThen, headerOf}
 use Rattle.sitting_file.specs.Samples.{InLimits, longestHeader}
-use Rattle.sitting_file.proofs.Groups.{Found, number-found}
+use Rattle.sitting_file.proofs.Groups.{number-found}
 use Rattle.sitting_file.specs.declared.Shape.{Shape}
 use Rattle.sitting_file.specs.declared.Refusal.{Refusal}
-use Rattle.sitting_file.specs.declared.Refusal.the-variants.{NotShortest, OutsideLimits}
 use Rattle.sitting_file.specs.declared.Number.{Number}
 use Rattle.sitting_file.specs.declared.Number.the-variants.{Value, Fault}
 use Rattle.sitting_file.specs.declared.Heading.{Heading}

@@ -4,10 +4,10 @@ use mathlib.Core.Path.{_≡_, refl, sym, ap, subst, _∙_}
 use mathlib.Core.Bool.{Bool, true, false, cond}
 use mathlib.Core.List.{List, [], _∷_, _++_, append-assoc, append-nil}
 use native.Mathlib.Omega.{arith}
-use lib.ListN.{length, getD, length-append}
+use lib.ListN.{length, length-append}
 use lib.Dec.{ltb}
 use borrow.Author.Tests.{ltb-true, lt-ltb}
-use Rattle.sitting_file.specs.Samples.{InLimits, Below}
+use Rattle.sitting_file.specs.Samples.{Below}
 use Rattle.sitting_file.specs.Verdict.{shortest, written, headed, OfFormat, from-to, nothing, after, Fits, Follow}
 use Rattle.sitting_file.specs.declared.Shape.{Shape}
 

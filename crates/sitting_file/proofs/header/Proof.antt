@@ -10,9 +10,6 @@ use Rattle.sitting_file.specs.declared.Number.the-variants.{Value}
 use Rattle.sitting_file.proofs.Stages.{alphabet-refused, depth-refused, first-refused, second-refused, header-whole}
 use Rattle.sitting_file.proofs.header.Statement.{statement}
 use Rattle.sitting_file.proofs.header.Tie as tie
-use Rattle.sitting_file.proofs.header.Reads as reads
-use Rattle.sitting_file.proofs.header.Lts as lts
-use Rattle.sitting_file.proofs.number_at.Reads as number-at-reads
 
 number-at-requires : tie.Need-number-at-requires
 number-at-requires c κs = search needs

@@ -8,10 +8,6 @@ use Rattle.sitting_file.specs.Format.{numberAt, secondGroup}
 use Rattle.sitting_file.proofs.Places.{no-byte, one-group, two-groups, no-second, third-group, empty-group, both-groups}
 use Rattle.sitting_file.proofs.number_at.Statement.{statement}
 use Rattle.sitting_file.proofs.number_at.Tie as tie
-use Rattle.sitting_file.proofs.number_at.Reads as reads
-use Rattle.sitting_file.proofs.number_at.Lts as lts
-use Rattle.sitting_file.proofs.judged.Reads as judged-reads
-use Rattle.sitting_file.proofs.wide.Reads as wide-reads
 
 returns : tie.Need-returns
 returns c = sym (no-byte _ _ _ _ (c .if1 .taken))

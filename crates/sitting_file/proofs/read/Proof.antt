@@ -4,13 +4,9 @@ use mathlib.Core.Path.{_≡_, sym, ap, _∙_}
 use denote.Ref.{now}
 use Rattle.sitting_file.specs.Format.{headerOf, bodyOf}
 use Rattle.sitting_file.specs.declared.Heading.the-variants.{Whole}
-use Rattle.sitting_file.proofs.Stages.{HeaderRead, header-read}
+use Rattle.sitting_file.proofs.Stages.{header-read}
 use Rattle.sitting_file.proofs.read.Statement.{statement}
 use Rattle.sitting_file.proofs.read.Tie as tie
-use Rattle.sitting_file.proofs.read.Reads as reads
-use Rattle.sitting_file.proofs.read.Lts as lts
-use Rattle.sitting_file.proofs.header.Reads as header-reads
-use Rattle.sitting_file.proofs.symbols_from.Reads as symbols-from-reads
 
 header-requires : tie.Need-header-requires
 header-requires c κs = search needs

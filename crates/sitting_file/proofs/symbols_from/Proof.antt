@@ -5,9 +5,6 @@ use Rattle.sitting_file.specs.Format.{symbolsFrom}
 use Rattle.sitting_file.proofs.Places.{symbol-refused, symbol-read, all-read, more-bytes}
 use Rattle.sitting_file.proofs.symbols_from.Statement.{statement}
 use Rattle.sitting_file.proofs.symbols_from.Tie as tie
-use Rattle.sitting_file.proofs.symbols_from.Reads as reads
-use Rattle.sitting_file.proofs.symbols_from.Lts as lts
-use Rattle.sitting_file.proofs.number_at.Reads as number-at-reads
 
 abbrev Inv-loop : tie.InvT-loop
 Inv-loop file from shape highest left₀ at₀ left at = symbolsFrom file shape left₀ at₀ ≡ symbolsFrom file shape left at
