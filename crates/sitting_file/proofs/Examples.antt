@@ -1,10 +1,12 @@
 -- Files and their answers, by computation: document 01's own file, and the cases that its words on refusals leave a reader to settle.
 -- Assumes nothing.
-use Prim.Native.Nat.{ℕ}
+use Prim.Native.Nat.{ℕ, _+_}
 use mathlib.Core.Path.{_≡_, refl}
-use mathlib.Core.List.{List, [], _∷_, map}
+use mathlib.Core.List.{List, [], _∷_, _++_, map}
 use lib.ListN.{replicate}
+use Rattle.numbers.specs.Limits.{longest}
 use Rattle.sitting_file.specs.Format.{judged, secondGroup, firstGroup, headerOf, symbolsFrom, bodyOf, readOf, refusalNumber}
+use Rattle.sitting_file.specs.Verdict.{shortest}
 use Rattle.sitting_file.specs.declared.Refusal.the-variants.{EndsEarly, NotShortest, OutsideLimits, BytesLeft}
 use Rattle.sitting_file.specs.declared.Reading.{Reading}
 use Rattle.sitting_file.specs.declared.Reading.the-variants.{Accepted, Refused}
@@ -32,10 +34,11 @@ abbrev pub examples : List Example
 examples =
     -- the program's example, J3
     accepted 2 1 8 8 (0x02 ∷ 0x01 ∷ 0x08 ∷ 0x08 ∷ 0 ∷ 1 ∷ 0 ∷ 1 ∷ 0 ∷ 1 ∷ 0 ∷ 1 ∷ 0 ∷ 0 ∷ 1 ∷ 0 ∷ 0 ∷ 1 ∷ 0 ∷ 0 ∷ [])
-    -- the least and the greatest values, and 512 symbols
+    -- the least and the greatest values; 128 symbols, whose number takes two groups
     ∷ accepted 2 0 0 0 (2 ∷ 0 ∷ 0 ∷ 0 ∷ [])
     ∷ accepted 8 6 1 1 (8 ∷ 6 ∷ 1 ∷ 1 ∷ 7 ∷ 0 ∷ [])
-    ∷ accepted 2 1 512 0 (2 ∷ 1 ∷ 0x80 ∷ 4 ∷ 0 ∷ replicate 512 1)
+    ∷ accepted 2 1 128 0 (2 ∷ 1 ∷ 0x80 ∷ 1 ∷ 0 ∷ replicate 128 1)
+    ∷ accepted 2 1 longest 0 (2 ∷ 1 ∷ (shortest longest ++ (0 ∷ replicate longest 1)))
     -- 1: a symbol is a number too, and may open a second group
     ∷ ends-early (2 ∷ 0 ∷ 1 ∷ 0 ∷ 0x81 ∷ [])
     ∷ not-shortest (2 ∷ 0 ∷ 1 ∷ 0 ∷ 0x81 ∷ 0 ∷ [])
@@ -54,9 +57,9 @@ examples =
     ∷ outside-limits (1 ∷ [])
     ∷ outside-limits (9 ∷ [])
     ∷ outside-limits (2 ∷ 7 ∷ [])
-    ∷ outside-limits (2 ∷ 1 ∷ 0x81 ∷ 4 ∷ [])
-    ∷ outside-limits (2 ∷ 1 ∷ 0 ∷ 0x81 ∷ 4 ∷ [])
-    ∷ ends-early (2 ∷ 1 ∷ 0x80 ∷ 4 ∷ [])
+    ∷ outside-limits (2 ∷ 1 ∷ shortest (longest + 1))
+    ∷ outside-limits (2 ∷ 1 ∷ 0 ∷ shortest (longest + 1))
+    ∷ ends-early (2 ∷ 1 ∷ shortest longest)
     -- 6: a missing symbol is found where it should stand, after the faults left of it
     ∷ ends-early (2 ∷ 0 ∷ 3 ∷ 0 ∷ 1 ∷ [])
     ∷ outside-limits (2 ∷ 0 ∷ 3 ∷ 0 ∷ 2 ∷ [])
@@ -73,7 +76,7 @@ examples =
     ∷ []
 
 pub examples-right : map (λ (e : Example). readOf (e .file)) examples ≡ map (λ (e : Example). e .answer) examples
-unfolding judged secondGroup firstGroup headerOf symbolsFrom bodyOf
+unfolding shortest judged secondGroup firstGroup headerOf symbolsFrom bodyOf
 examples-right = refl
 
 -- document 01's numbers of the four refusals

@@ -23,19 +23,21 @@ one-each A (x ∷ ss) h b =
     rw (one-byte x (omega arith), one-each A ss h (λ i l. b (suc i) (omega arith)))
 
 module _ (file : List ℕ) (shape : Shape) where
+  abbrev head : List ℕ
+  head = written (headed shape [])
+
+  format-bytes : (f : OfFormat file shape) → file ≡ head ++ f .symbols
+  format-bytes f = f .bytes ∙ written-append (headed shape []) (f .symbols) ∙ ap (λ (l : List ℕ). head ++ l) (one-each (shape .alphabet) (f .symbols) (f .limits .alphabet-high) (f .below))
+
   -- the symbols of a file of the format are its last n + m bytes
-  format-symbols : (f : OfFormat file shape) → (file ≡ written (headed shape []) ++ f .symbols) × (f .symbols ≡ symbolsOf file shape)
+  pub format-symbols : (f : OfFormat file shape) → f .symbols ≡ symbolsOf file shape
   format-symbols f =
-      let ss = f .symbols in
-      let head : List ℕ = written (headed shape []) in
-      let whole : file ≡ head ++ ss = f .bytes ∙ written-append (headed shape []) ss ∙ ap (λ (l : List ℕ). head ++ l) (one-each (shape .alphabet) ss (f .limits .alphabet-high) (f .below)) in
-      let long : length file ≡ length head + length ss = ap length whole ∙ length-append head ss in
-      let count : length ss ≡ shape .first + shape .second = f .count in
+      let long : length file ≡ length head + length (f .symbols) = ap length (format-bytes f) ∙ length-append head (f .symbols) in
+      let count : length (f .symbols) ≡ shape .first + shape .second = f .count in
       let start : length head ≡ length file - (shape .first + shape .second) = omega arith in
-      (whole, sym (ap (drop (length file - (shape .first + shape .second))) whole ∙ drop-at head ss _ start))
+      sym (ap (drop (length file - (shape .first + shape .second))) (format-bytes f) ∙ drop-at head (f .symbols) _ start)
 
   pub accepted-bytes : Bytes file → readOf file ≡ Accepted shape → file ≡ written (headed shape []) ++ (firstOf file shape ++ secondOf file shape)
   accepted-bytes bytes e =
       let f = answer-exactly file bytes (Accepted shape) .0 (sym e) in
-      let s = format-symbols f in
-      s .0 ∙ ap (λ (l : List ℕ). written (headed shape []) ++ l) (s .1 ∙ sym (take-append-drop (shape .first) (symbolsOf file shape)))
+      format-bytes f ∙ ap (λ (l : List ℕ). head ++ l) (format-symbols f ∙ sym (take-append-drop (shape .first) (symbolsOf file shape)))

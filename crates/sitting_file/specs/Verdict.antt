@@ -76,9 +76,9 @@ Ends (from-to low high) rest = (rest ≡ []) ⊎ ((b : ℕ) × (highBit ≤ b) �
 Ends nothing rest = ⊥
 
 -- 14: "number not in its shortest form, or its second group has the high bit set (judged at that byte)"
-abbrev pub Long : Due → List ℕ → Type 0
-Long (from-to low high) rest = (b c : ℕ) × (more : List ℕ) × (highBit ≤ b) × ((highBit ≤ c) ⊎ (c ≡ 0)) × (rest ≡ b ∷ c ∷ more)
-Long nothing rest = ⊥
+abbrev pub NotShort : Due → List ℕ → Type 0
+NotShort (from-to low high) rest = (b c : ℕ) × (more : List ℕ) × (highBit ≤ b) × ((highBit ≤ c) ⊎ (c ≡ 0)) × (rest ≡ b ∷ c ∷ more)
+NotShort nothing rest = ⊥
 
 -- 15: "file value outside its limits": a whole number in its shortest form
 abbrev pub Outside : Due → List ℕ → Type 0
@@ -93,7 +93,7 @@ Left nothing rest = (b : ℕ) × (more : List ℕ) × (rest ≡ b ∷ more)
 -- the fault at a place, by what is due there and the bytes from there on
 abbrev pub FaultAt : Refusal → Due → List ℕ → Type 0
 FaultAt EndsEarly = Ends
-FaultAt NotShortest = Long
+FaultAt NotShortest = NotShort
 FaultAt OutsideLimits = Outside
 FaultAt BytesLeft = Left
 
