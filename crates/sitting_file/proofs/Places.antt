@@ -7,7 +7,7 @@ use native.Mathlib.Omega.{arith}
 use lib.ListN.{length, getD, drop, drop-of-length-le}
 use lib.Seq.{drop-cons}
 use borrow.Author.Tests.{lt-ltb, le-ltb, le-leb, lt-leb, eq-eqb, ne-eqb}
-use Rattle.sitting_file.specs.Format.{joined, judged, secondGroup, firstGroup, numberAt, symbolsFrom}
+use Rattle.sitting_file.specs.Format.{highBit, joined, judged, secondGroup, firstGroup, numberAt, symbolsFrom}
 use Rattle.sitting_file.specs.declared.Shape.{Shape}
 use Rattle.sitting_file.specs.declared.Refusal.{Refusal}
 use Rattle.sitting_file.specs.declared.Refusal.the-variants.{EndsEarly, NotShortest, OutsideLimits, BytesLeft}
@@ -32,37 +32,41 @@ module _ (low high v next : ℕ) where
 -- ---- the groups of a number
 
 module _ (file : List ℕ) (at low high : ℕ) where
-  -- the bytes from a place on, where b stands there
-  here : (b : ℕ) → at < length file → b ≡ getD file at 0 → drop at file ≡ b ∷ drop (at + 1) file
-  here b h e = rw (add-one, e) (drop-cons file at 0 h)
+  abbrev byte : ℕ
+  byte = getD file at 0
+
+  -- the bytes from a place on
+  here : at < length file → drop at file ≡ byte ∷ drop (at + 1) file
+  here h = rw add-one (drop-cons file at 0 h)
 
   pub no-byte : length file ≤ at → numberAt file at low high ≡ Fault EndsEarly
   unfolding firstGroup
   no-byte h = rw (drop-of-length-le file h)
 
-  pub one-group : (b : ℕ) → at < length file → b ≡ getD file at 0 → b < 128 → numberAt file at low high ≡ judged low high b (at + 1)
+  pub one-group : at < length file → byte < highBit → numberAt file at low high ≡ judged low high byte (at + 1)
   unfolding firstGroup
-  one-group b h e k = rw (here b h e, lt-leb 128 b k)
+  one-group h k = rw (here h, lt-leb highBit byte k)
 
-  pub two-groups : (b : ℕ) → at < length file → b ≡ getD file at 0 → 128 ≤ b → numberAt file at low high ≡ secondGroup low high b (at + 1) (drop (at + 1) file)
+  pub two-groups : at < length file → highBit ≤ byte → numberAt file at low high ≡ secondGroup low high byte (at + 1) (drop (at + 1) file)
   unfolding firstGroup
-  two-groups b h e k = rw (here b h e, le-leb 128 b k)
+  two-groups h k = rw (here h, le-leb highBit byte k)
 
-  pub no-second : (b : ℕ) → length file ≤ at → secondGroup low high b at (drop at file) ≡ Fault EndsEarly
-  unfolding secondGroup
-  no-second b h = rw (drop-of-length-le file h)
+  module _ (b : ℕ) where
+    pub no-second : length file ≤ at → secondGroup low high b at (drop at file) ≡ Fault EndsEarly
+    unfolding secondGroup
+    no-second h = rw (drop-of-length-le file h)
 
-  pub third-group : (b c : ℕ) → at < length file → c ≡ getD file at 0 → 128 ≤ c → secondGroup low high b at (drop at file) ≡ Fault NotShortest
-  unfolding secondGroup
-  third-group b c h e k = rw (here c h e, le-leb 128 c k)
+    pub empty-group : at < length file → byte ≡ 0 → secondGroup low high b at (drop at file) ≡ Fault NotShortest
+    unfolding secondGroup
+    empty-group h z = rw (here h, lt-leb highBit byte (omega arith), eq-eqb byte 0 z)
 
-  pub empty-group : (b c : ℕ) → at < length file → c ≡ getD file at 0 → c ≡ 0 → secondGroup low high b at (drop at file) ≡ Fault NotShortest
-  unfolding secondGroup
-  empty-group b c h e z = rw (here c h e, lt-leb 128 c (omega arith), eq-eqb c 0 z)
+    pub both-groups : at < length file → (byte ≡ 0 → ⊥) → byte < highBit → secondGroup low high b at (drop at file) ≡ judged low high (joined b byte) (at + 1)
+    unfolding secondGroup
+    both-groups h z k = rw (here h, lt-leb highBit byte k, ne-eqb byte 0 z)
 
-  pub both-groups : (b c : ℕ) → at < length file → c ≡ getD file at 0 → c < 128 → (c ≡ 0 → ⊥) → secondGroup low high b at (drop at file) ≡ judged low high (joined b c) (at + 1)
-  unfolding secondGroup
-  both-groups b c h e k z = rw (here c h e, lt-leb 128 c k, ne-eqb c 0 z)
+    pub third-group : at < length file → highBit ≤ byte → secondGroup low high b at (drop at file) ≡ Fault NotShortest
+    unfolding secondGroup
+    third-group h k = rw (here h, le-leb highBit byte k)
 
 -- ---- a turn of the loop over the symbols, and its end
 

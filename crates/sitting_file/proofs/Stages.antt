@@ -1,5 +1,5 @@
 -- The header at each place where it stops. Assumes nothing.
-use Prim.Native.Nat.{ℕ, _-_, _≤_}
+use Prim.Native.Nat.{ℕ, _≤_}
 use mathlib.Core.Path.{_≡_, refl, ap, ap₂, _∙_}
 use mathlib.Core.List.{List}
 use native.Mathlib.Omega.{arith}
@@ -7,13 +7,13 @@ use lib.ListN.{length}
 use Rattle.numbers.specs.Limits.{fewestSymbols, mostSymbols, deepest, longest}
 use Rattle.sitting_file.specs.Format.{numberAt, andThen, headerOf}
 use Rattle.sitting_file.specs.Samples.{InLimits, longestHeader}
-use Rattle.sitting_file.proofs.Groups.{number-found}
 use Rattle.sitting_file.specs.declared.Shape.{Shape}
 use Rattle.sitting_file.specs.declared.Refusal.{Refusal}
 use Rattle.sitting_file.specs.declared.Number.{Number}
 use Rattle.sitting_file.specs.declared.Number.the-variants.{Value, Fault}
 use Rattle.sitting_file.specs.declared.Heading.{Heading}
 use Rattle.sitting_file.specs.declared.Heading.the-variants.{Whole, Faulty}
+use Rattle.sitting_file.proofs.Groups.{number-found}
 
 -- ---- the header, as far as it was read
 

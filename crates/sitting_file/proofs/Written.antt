@@ -7,6 +7,7 @@ use native.Mathlib.Omega.{arith}
 use lib.ListN.{length, length-append}
 use lib.Dec.{ltb}
 use borrow.Author.Tests.{ltb-true, lt-ltb}
+use Rattle.numbers.specs.Limits.{fewestSymbols}
 use Rattle.sitting_file.specs.Samples.{Below}
 use Rattle.sitting_file.specs.Verdict.{shortest, written, headed, OfFormat, from-to, nothing, after, Fits, Follow}
 use Rattle.sitting_file.specs.declared.Shape.{Shape}
@@ -57,7 +58,7 @@ module _ (shape : Shape) where
 
   pub follow-format : (file ss : List ℕ) → Follow [] (headed shape ss) → length ss ≡ wanted → file ≡ written (headed shape ss) → OfFormat file shape
   follow-format file ss f h e =
-      let low : 2 ≤ shape .alphabet = f .0 .0 in
+      let low : fewestSymbols ≤ shape .alphabet = f .0 .0 in
       record {
         symbols = ss;
         limits = record { alphabet-low = f .0 .0; alphabet-high = f .0 .1; depth-high = f .1 .0 .1; first-high = f .1 .1 .0 .1; second-high = f .1 .1 .1 .0 .1 };

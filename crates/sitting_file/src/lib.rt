@@ -1,6 +1,6 @@
 // Reads sitting files: A, D, n, m, n symbols, m symbols, each a number in groups of seven bits.
 ghost use mathlib.Core.Path.{_≡_};
-ghost use Prim.Native.Nat.{_+_, _<_};
+ghost use Prim.Native.Nat.{_+_};
 ghost use Rattle.sitting_file.specs.Format.{refusalNumber, judged, numberAt, headerOf, symbolsFrom, readOf};
 ghost use Rattle.sitting_file.specs.Samples.{InLimits};
 
@@ -130,7 +130,7 @@ fn number_at(file: &[u8], at: usize, low: u32, high: u32) -> Number
     if file.len() <= at {
         return Number::Fault(Refusal::EndsEarly);
     }
-    let lowest = wide(file[at]);
+    let lowest = file[at] as u32;
     let next = at + 1;
     if lowest < HIGH_BIT {
         return judged(low, high, lowest, next);
@@ -138,7 +138,7 @@ fn number_at(file: &[u8], at: usize, low: u32, high: u32) -> Number
     if file.len() <= next {
         return Number::Fault(Refusal::EndsEarly);
     }
-    let highest = wide(file[next]);
+    let highest = file[next] as u32;
     if highest == 0 {
         return Number::Fault(Refusal::NotShortest);
     }
@@ -160,10 +160,4 @@ fn judged(low: u32, high: u32, value: u32, next: usize) -> Number
         return Number::Fault(Refusal::OutsideLimits);
     }
     Number::Value(value, next)
-}
-
-fn wide(byte: u8) -> u32
-    ensures { λ r. ⌜ (r ≡ byte) × (r < 256) ⌝ }
-{
-    byte as u32
 }
