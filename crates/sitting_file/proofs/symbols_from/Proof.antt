@@ -47,10 +47,14 @@ loop-again c =
     n .before .before .loop .inv ∙ symbol-read _ _ _ _ _ _ (n .before .loop-test .taken) (sym (n .number-at .ensures) ∙ c .before .got .given .1)
 
 returns-2 : tie.Need-returns-2 Inv-loop μ-loop
-returns-2 c = sym (c .before .before .loop .inv ∙ more-bytes _ _ _ _ (c .before .loop-test .left) (c .if1 .taken))
+returns-2 c =
+    let l = c .before .before .loop in
+    sym (l .inv ∙ more-bytes _ _ (l .left) (l .at) (c .before .loop-test .left) (c .if1 .taken))
 
 returns-3 : tie.Need-returns-3 Inv-loop μ-loop
-returns-3 c = sym (c .before .before .loop .inv ∙ all-read _ _ _ _ (c .before .loop-test .left) (c .if1 .left))
+returns-3 c =
+    let l = c .before .before .loop in
+    sym (l .inv ∙ all-read _ _ (l .left) (l .at) (c .before .loop-test .left) (c .if1 .left))
 
 pub symbols-from-spec : {M : Type 1} → statement M
 symbols-from-spec =
