@@ -94,6 +94,7 @@ module _ (file : List ℕ) (shape : Shape) (at : ℕ) (ends : at + (shape .first
         limits = l;
         enough = omega arith;
         size = omega arith;
+        below = λ i h k. below i (omega arith) k;
         first-count = first-long;
         second-count = second-long;
         first-below = λ i h. rw (getD-take n ss i 0 (omega arith), symbol i) (below (at + i) (omega arith) (omega arith));

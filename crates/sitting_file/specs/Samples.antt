@@ -36,11 +36,12 @@ longestHeader = 6
 abbrev pub longestFile : ℕ
 longestFile = longestHeader + (longest + longest)
 
--- what is known of an accepted file
+-- what is known of an accepted file: its last n + m bytes are there and below A, and are the two samples
 pub record Holds (file : List ℕ) (shape : Shape) : Type 0 where
   pub limits : InLimits shape
   pub enough : shape .first + shape .second ≤ length file
   pub size : length file ≤ longestFile
+  pub below : (i : ℕ) → length file - (shape .first + shape .second) ≤ i → i < length file → getD file i 0 < shape .alphabet
   pub first-count : length (firstOf file shape) ≡ shape .first
   pub second-count : length (secondOf file shape) ≡ shape .second
   pub first-below : Below (shape .alphabet) (firstOf file shape)
