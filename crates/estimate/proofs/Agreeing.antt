@@ -97,30 +97,25 @@ estimate-alike A (suc d) f g e = go (λ a l. estimate-alike A d (below a f) (bel
 
 -- ---- two sittings
 
--- the same A, D and lengths, and the same counts of every context
-pub record Agree (x y : Sitting) : Type 0 where
-  pub symbols : x .symbols ≡ y .symbols
-  pub depth : x .depth ≡ y .depth
-  pub sizes : (i : Sample) → x .size i ≡ y .size i
-  pub counts : (i : Sample) (s : List ℕ) (a : ℕ) → T (isContext (x .symbols) (x .depth) s) → x .count i s a ≡ y .count i s a
-
 kind-alike : (k : Kind) (g h : Sample → ℕ) → ((i : Sample) → g i ≡ h i) → ofKind k g ≡ ofKind k h
 kind-alike shared g h e = ap₂ _+_ (e first) (e second)
 kind-alike (own i) g h e = e i
 
 module _ (A D : ℕ) (n m : Sample → ℕ) (c e : Sample → List ℕ → ℕ → ℕ) (sizes : (i : Sample) → n i ≡ m i)
     (same : (i : Sample) (s : List ℕ) (a : ℕ) → T (isContext A D s) → c i s a ≡ e i s a) where
-  x : Sitting
+  abbrev x : Sitting
   x = record { symbols = A; depth = D; size = n; count = c }
 
-  y : Sitting
+  abbrev y : Sitting
   y = record { symbols = A; depth = D; size = m; count = e }
 
   losses-alike : (k : Kind) (s : List ℕ) → T (isContext A D s) → losses x k s ≡ losses y k s
-  unfolding x y
   losses-alike k s h =
       ap₂ _+_ (ap (cost A) (kind-alike k n m sizes)) (spread-cong A {c = counts x k s} {e = counts y k s} (λ a l. kind-alike k (λ i. c i s a) (λ i. e i s a) (λ i. same i s a h)))
 
-  both-alike : (estimateOf x ≡ estimateOf y) × (joint A D (losses x) ≡ joint A D (losses y))
-  unfolding x y
-  both-alike = (estimate-alike A D (losses x) (losses y) losses-alike, joint-alike A D (losses x) (losses y) losses-alike)
+  -- THEOREM. Two sittings of one A and D that agree on lengths and on the counts of every context have one estimate, and one score
+  pub same-estimate : estimateOf x ≡ estimateOf y
+  same-estimate = estimate-alike A D (losses x) (losses y) losses-alike
+
+  pub same-score : score A D (worths x) (estimateOf x) ≡ score A D (worths y) (estimateOf y)
+  same-score = score-estimate x ∙ ap minus (joint-alike A D (losses x) (losses y) losses-alike) ∙ sym (score-estimate y)
