@@ -5,7 +5,7 @@ use mathlib.Core.List.{List, [], _∷_}
 use Prim.Native.Nat.{ℕ, zero, suc, _*_, _≤_, _<_, suc-le-suc}
 use native.Mathlib.Nat.{not-suc-le-zero, le-of-suc-le-suc}
 use native.Mathlib.Omega.{arith}
-use borrow.Author.Tests.{ltb-true, ltb-false, eq-eqb, ne-eqb}
+use borrow.Author.Tests.{ltb-true, ltb-false, eqb-true, eqb-false, eq-eqb, ne-eqb}
 use lib.Dec.{T, ltb, eqb, eqb→eq}
 use lib.ListN.{length, getD, List·getD-map, length-map}
 use Rattle.numbers.proofs.Tests.{is-true, choose, or-left, or-right, or-rest, or-none}
@@ -130,3 +130,11 @@ module _ (k n p : ℕ) (l : List ℕ) where
 
   pub held-lost : Rising (records n l) → p ≡ rank k (keys (records n l)) → (p < n → getD l (width * p) 0 ≡ k → ⊥) → held k (records n l) ≡ false
   held-lost up at m = held-missed k 0 (records n l) p up (sym at) (missed m)
+
+  -- the test of the key at its rank
+  pub held-tested : Rising (records n l) → p ≡ rank k (keys (records n l)) → p < n → eqb (getD l (width * p) 0) k ≡ held k (records n l)
+  held-tested up at h = go (eqb (getD l (width * p) 0) k) refl
+    where
+      go : (t : Bool) → eqb (getD l (width * p) 0) k ≡ t → t ≡ held k (records n l)
+      go true e = sym (held-found h (eqb-true (getD l (width * p) 0) k e))
+      go false e = sym (held-lost up at (λ _. eqb-false (getD l (width * p) 0) k e))

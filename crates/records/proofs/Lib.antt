@@ -2,3 +2,4 @@ pub mod Parts
 pub mod Lent
 pub mod Rising
 pub mod Finding
+pub mod Cells
