@@ -3,3 +3,7 @@ pub mod Lent
 pub mod Rising
 pub mod Finding
 pub mod Cells
+pub mod Bumping
+pub mod Counting
+pub mod Keeping
+pub mod Desks
