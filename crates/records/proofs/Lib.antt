@@ -7,3 +7,6 @@ pub mod Bumping
 pub mod Counting
 pub mod Keeping
 pub mod Desks
+pub mod Shifting
+pub mod Inserting
+pub mod Removing

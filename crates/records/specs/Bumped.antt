@@ -34,10 +34,14 @@ pub record Written (rs : List (List ℕ)) (m : ℕ) (before after : List ℕ) : 
   pub live : records m after ≡ rs
   pub past : drop (width * m) after ≡ drop (width * m) before
 
+-- a cell of a record, past its key
+pub record Cell (c : ℕ) : Type 0 where
+  pub after-key : 1 ≤ c
+  pub inside : c < width
+
 -- what a bump asks: rising keys, room for a record more where no record has the key, and a count that has not run full
 pub record Bumpable (k c n : ℕ) (l : List ℕ) : Type 0 where
   pub fits : width * (n + one (not (held k (records n l)))) ≤ length l
   pub rising : Rising (records n l)
-  pub after-key : 1 ≤ c
-  pub in-record : c < width
+  pub cell : Cell c
   pub small : getD (lookup k (records n l)) c 0 ≤ longest

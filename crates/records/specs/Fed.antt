@@ -10,7 +10,7 @@ use Rattle.contexts.specs.Context.{isContext}
 use Rattle.contexts.specs.Keys.{keyOf}
 use Rattle.contexts.specs.Sitting.{Sample, first, second}
 use Rattle.records.specs.Records.{width, records}
-use Rattle.records.specs.Held.{held, countAt, Rising}
+use Rattle.records.specs.Held.{held, countAt, Standing}
 use Rattle.records.specs.Bumped.{bumped}
 
 -- sample 0 is the first, sample 1 the second
@@ -33,8 +33,7 @@ missing d recent rs = sum (suc (length recent)) (λ j. one (not (held (keyOf d (
 
 -- what counting the missing contexts asks: n records in rising order, a desk, and recent symbols within the limits
 pub record Asked (d : ℕ) (recent : List ℕ) (n : ℕ) (l : List ℕ) : Type 0 where
-  pub fits : width * n ≤ length l
-  pub rising : Rising (records n l)
+  pub standing : Standing n l
   pub desk : d < desks
   pub context : T (isContext mostSymbols deepest recent)
 

@@ -3,9 +3,10 @@
 use mathlib.Core.Path.{_≡_}
 use mathlib.Core.Bool.{Bool, false, cond, not, _||_}
 use mathlib.Core.List.{List, [], _∷_}
-use Prim.Native.Nat.{ℕ, zero, suc, _*_, _≤_}
+use Prim.Native.Nat.{ℕ, zero, suc, _*_, _≤_, _<_}
 use lib.ListN.{length, take, drop, getD}
 use lib.Dec.{T, ltb, eqb}
+use Rattle.numbers.specs.Limits.{desks}
 use Rattle.contexts.specs.Keys.{deskOf}
 use Rattle.contexts.specs.Sitting.{Sample, first, second}
 use Rattle.records.specs.Records.{width, records, key, keys, countsOf, rises, lookup}
@@ -58,6 +59,11 @@ Wide (r ∷ rs) = (length r ≡ width) × Wide rs
 pub record Standing (n : ℕ) (l : List ℕ) : Type 0 where
   pub fits : width * n ≤ length l
   pub rising : Rising (records n l)
+
+-- what taking out a desk's records asks
+pub record Removable (d n : ℕ) (l : List ℕ) : Type 0 where
+  pub standing : Standing n l
+  pub desk : d < desks
 
 -- r is the place of a key among the first n records
 pub record Placed (k n r : ℕ) (l : List ℕ) : Type 0 where
