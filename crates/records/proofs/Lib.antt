@@ -10,3 +10,5 @@ pub mod Desks
 pub mod Shifting
 pub mod Inserting
 pub mod Removing
+pub mod Feeding
+pub mod Growing
