@@ -12,3 +12,5 @@ pub mod Inserting
 pub mod Removing
 pub mod Feeding
 pub mod Growing
+pub mod KeyWalk
+pub mod FeedWalk

@@ -1,20 +1,27 @@
 // The records of a store: one dense run of records of 24 numbers, strictly rising in key.
 // Each function works on the store's part from the header on, of any length that holds the records.
 ghost use mathlib.Core.Path.{_≡_};
+ghost use mathlib.Core.Bool.{not};
 ghost use mathlib.Core.List.{_++_};
-ghost use Prim.Native.Nat.{_+_, _-_, _*_, _≤_, _<_};
+ghost use Prim.Native.Nat.{_+_, _-_, _*_, _^_, _≤_, _<_};
 ghost use lib.ListN.{length, take, drop, getD};
 ghost use Rattle.numbers.specs.Limits.{longest};
+ghost use Rattle.numbers.specs.Sum.{one};
 ghost use Rattle.contexts.specs.Sitting.{eight};
 ghost use Rattle.records.specs.Records.{width, records, blank, lookup};
 ghost use Rattle.records.specs.Held.{held, recordAt, tableOf, without, Standing, Removable, Placed};
 ghost use Rattle.records.specs.Bumped.{raised, bumpedAt, Cell, Bumpable, Written};
+ghost use Rattle.records.specs.Fed.{sampleOf, fed, missing, Asked, Feedable};
 
+// How many numbers a record has.
 const WIDTH: usize = 24;
 
 const SYMBOLS: usize = 8;
 
+// How many keys a desk has, and what the most recent symbol weighs in a key.
 const DESK_SPAN: u32 = 2097152;
+
+const NEWEST: u32 = 262144;
 
 // The counts of the record at a place.
 pub fn counts_at(numbers: &[u32], at: usize) -> [[u32; 8]; 2]
@@ -102,6 +109,73 @@ pub fn remove_desk(numbers: &mut [u32], n: usize, desk: u32) -> usize
     let to = WIDTH * n;
     shift_down(&mut numbers[from..to], WIDTH * gone);
     n - gone
+}
+
+// How many of the contexts that a symbol follows none of the first `n` records has. `recent` are the symbols before it, most recent first.
+pub fn missing_in(numbers: &[u32], n: usize, desk: u32, recent: &[u32]) -> usize
+    requires { ⌜ Asked desk (now recent) n (now numbers) ⌝ }
+    ensures { λ r. ⌜ r ≡ missing desk (now (recent .entry)) (records n (now (numbers .entry))) ⌝ }
+{
+    let mut key = desk * DESK_SPAN;
+    let mut weight = NEWEST;
+    let mut count: usize = 0;
+    let mut long: usize = 0;
+    while long <= recent.len() {
+        count = count + lacks(numbers, n, key);
+        key = longer(key, weight, recent, long);
+        weight = weight / 8;
+        long = long + 1;
+    }
+    count
+}
+
+// A symbol is fed to a sample: each context that it follows gets one more. `recent` are the symbols before it, most recent first.
+// Gives the number of records then.
+pub fn feed_records(
+    numbers: &mut [u32],
+    n: usize,
+    desk: u32,
+    sample: u32,
+    symbol: u32,
+    recent: &[u32],
+) -> usize
+    requires { ⌜ Feedable desk sample symbol (now recent) n (now numbers) ⌝ }
+    ensures { λ r. ⌜ Written (fed desk (sampleOf sample) symbol (now (recent .entry)) (records n (now (numbers .entry)))) r (now (numbers .entry)) (now (numbers .exit)) ⌝ }
+{
+    let cell = 1 + (SYMBOLS * sample as usize + symbol as usize);
+    let mut key = desk * DESK_SPAN;
+    let mut weight = NEWEST;
+    let mut count = n;
+    let mut long: usize = 0;
+    while long <= recent.len() {
+        count = bump(numbers, count, key, cell);
+        key = longer(key, weight, recent, long);
+        weight = weight / 8;
+        long = long + 1;
+    }
+    count
+}
+
+// 1 where none of the first `n` records has a key, else 0.
+fn lacks(numbers: &[u32], n: usize, key: u32) -> usize
+    requires { ⌜ Standing n (now numbers) ⌝ }
+    ensures { λ r. ⌜ r ≡ one (not (held key (records n (now (numbers .entry))))) ⌝ }
+{
+    if holds(numbers, n, key) {
+        return 0;
+    }
+    1
+}
+
+// The key of a context that is longer by the recent symbol at a place: that symbol's weight, and 1 for the length.
+fn longer(key: u32, weight: u32, recent: &[u32], place: usize) -> u32
+    requires { ⌜ (place < length (now recent) → key + (getD (now recent) place 0 * weight + 1) < 2 ^ 32) ⌝ }
+    ensures { λ r. ⌜ (place < length (now (recent .entry)) → r ≡ key + (getD (now (recent .entry)) place 0 * weight + 1)) ⌝ }
+{
+    if place < recent.len() {
+        return key + (recent[place] * weight + 1);
+    }
+    key
 }
 
 // The eight numbers after a place.
