@@ -14,10 +14,10 @@ use lib.Seq.{getD-set-other}
 use Rattle.numbers.specs.Sum.{one}
 use Rattle.numbers.proofs.Tests.{or-swap}
 use Rattle.numbers.proofs.Orders.{less, same, more, order}
-use Rattle.records.specs.Records.{width, key, keys, rises, blank, lookup}
-use Rattle.records.specs.Held.{rank, held, keep, Wide}
+use Rattle.records.specs.Records.{key, keys, rises, blank, lookup}
+use Rattle.records.specs.Held.{rank, held, Wide}
 use Rattle.records.specs.Bumped.{raised, bumpedAt}
-use Rattle.records.proofs.Rising.{rises-first, rises-rest, rises-cons, rises-weaken}
+use Rattle.records.proofs.Rising.{rises-first, rises-rest, rises-cons}
 use Rattle.records.proofs.Finding.{held-none, lookup-absent, rank-zero, rank-suc, Missed}
 
 -- ---- the three cases

@@ -1,22 +1,34 @@
 -- One desk's records: they stand together, and taking them out leaves every other desk's as they were. Assumes nothing.
 use mathlib.Core.Path.{_≡_, refl, sym, ap, _∙_}
 use mathlib.Core.Logic.{_≢_}
-use mathlib.Core.Bool.{Bool, true, false, not}
+use mathlib.Core.Bool.{Bool, false, not, _&&_}
 use mathlib.Core.List.{List, [], _∷_, _++_}
-use Prim.Native.Nat.{ℕ, zero, suc, _+_, _*_, _/_, _≤_, _<_}
+use Prim.Native.Nat.{ℕ, suc, _+_, _*_, _≤_, _<_}
 use native.Mathlib.Omega.{arith}
 use borrow.Author.Tests.{lt-ltb, le-ltb, eq-eqb, ne-eqb}
-use lib.Dec.{T, eqb, eqb→eq}
-use lib.ListN.{take, drop}
-use Rattle.numbers.proofs.Tests.{is-true}
+use lib.Dec.{T, eqb→eq}
+use lib.ListN.{length, take, drop}
 use Rattle.numbers.proofs.Orders.{Leb, le, gt, lebView}
 use Rattle.contexts.specs.Keys.{deskSpan, deskOf}
 use Rattle.records.specs.Records.{key, keys, rises, blank, lookup}
-use Rattle.records.specs.Held.{rank, keep, ofDesk, without}
+use Rattle.records.specs.Held.{rank, held, keep, ofDesk, without, Rising, Wide}
 use Rattle.records.proofs.Rising.{rises-rest, rank-none}
-use Rattle.records.proofs.Keeping.{lookup-keep, lookup-out, keep-keep, keep-none}
+use Rattle.records.proofs.Keeping.{rises-keep, wide-keep, length-split, held-keep, lookup-keep, lookup-out, keep-keep, keep-none}
 
 module _ (d : ℕ) where
+  pub rising-without : (rs : List (List ℕ)) → Rising rs → Rising (without d rs)
+  rising-without rs up = rises-keep (λ k. not (ofDesk d k)) 0 rs up
+
+  pub wide-without : (rs : List (List ℕ)) → Wide rs → Wide (without d rs)
+  wide-without rs w = wide-keep (λ k. not (ofDesk d k)) rs w
+
+  -- the desk's records and the others are all
+  pub length-without : (rs : List (List ℕ)) → length (keep (ofDesk d) rs) + length (without d rs) ≡ length rs
+  length-without rs = length-split (ofDesk d) rs
+
+  pub held-without : (k : ℕ) (rs : List (List ℕ)) → held k (without d rs) ≡ (not (ofDesk d k) && held k rs)
+  held-without k rs = held-keep (λ x. not (ofDesk d x)) k rs
+
   -- another desk's records stay
   pub other-without : (e : ℕ) (rs : List (List ℕ)) → d ≢ e → keep (ofDesk e) (without d rs) ≡ keep (ofDesk e) rs
   other-without e rs n = keep-keep (ofDesk e) (λ k. not (ofDesk d k)) rs stays

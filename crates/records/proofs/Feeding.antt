@@ -1,8 +1,7 @@
 -- What a feed does to records whose keys rise: to what stands under each key, to what is held, to the order, and to the number of records.
 -- Assumes nothing.
 use mathlib.Core.Path.{_≡_, refl, sym, ap, subst, _∙_}
-use mathlib.Core.Logic.{_⊎_, inl, inr}
-use mathlib.Core.Bool.{Bool, true, false, cond, not, _&&_, _||_, and-false, or-assoc}
+use mathlib.Core.Bool.{Bool, true, false, cond, _&&_, _||_, and-false, or-assoc}
 use mathlib.Core.List.{List, [], _∷_}
 use Prim.Native.Nat.{ℕ, zero, suc, _+_, _≤_, _<_}
 use native.Mathlib.Omega.{arith}
@@ -10,10 +9,9 @@ use borrow.Author.Tests.{lt-ltb, le-ltb, eq-eqb, ne-eqb}
 use lib.Dec.{T, eqb, ltb, eqb→eq, lt→ltb}
 use lib.ListN.{length, take, getD, length-take}
 use Rattle.numbers.specs.Limits.{mostSymbols}
-use Rattle.numbers.specs.Sum.{one, sum}
-use Rattle.numbers.proofs.Tests.{bool-ext, both, left, right, one-le}
+use Rattle.numbers.specs.Sum.{one}
+use Rattle.numbers.proofs.Tests.{bool-ext, both, left, right}
 use Rattle.numbers.proofs.Orders.{less, same, more, order, eq→eqb}
-use Rattle.numbers.proofs.Sums.{sum-mono, sum-same}
 use Rattle.contexts.specs.Context.{isContext, eqs, begins}
 use Rattle.contexts.specs.Keys.{keyOf}
 use Rattle.contexts.specs.Sitting.{Sample, sameSample}
@@ -21,9 +19,9 @@ use Rattle.contexts.proofs.Strings.{newest-below, older-context, context-cons, 
 use Rattle.contexts.proofs.KeyOrder.{Within, eqb-key}
 use Rattle.records.specs.Records.{countsOf, lookup}
 use Rattle.records.specs.Held.{held, countAt, Rising, Wide}
-use Rattle.records.specs.Bumped.{cellOf, raised, bumped}
-use Rattle.records.specs.Fed.{fedTo, fed, missing}
-use Rattle.records.proofs.Bumping.{rises-bumped, wide-bumped, lookup-bumped, held-bumped, length-bumped}
+use Rattle.records.specs.Bumped.{cellOf, raised}
+use Rattle.records.specs.Fed.{fedTo, fed}
+use Rattle.records.proofs.Bumping.{rises-bumped, wide-bumped, lookup-bumped, held-bumped}
 use Rattle.records.proofs.Counting.{cell-past, count-raised, wide-lookup}
 
 -- ---- the contexts that a symbol follows

@@ -1,5 +1,5 @@
 -- The two ways through `bump`, as the code has them: the record at the key's place is raised, or a new one is put there. Assumes nothing.
-use mathlib.Core.Path.{_≡_, refl, sym, ap, _∙_}
+use mathlib.Core.Path.{_≡_, sym, ap, _∙_}
 use mathlib.Core.Bool.{Bool, false, not}
 use mathlib.Core.List.{List, [], _++_}
 use Prim.Native.Nat.{ℕ, _+_, _-_, _*_, _≤_, _<_}
@@ -8,7 +8,7 @@ use lib.ListN.{length, take, drop, getD, set, length-set, length-drop, length-ap
 use lib.Seq.{drop-set-lt, take-take, length-take-le}
 use Rattle.numbers.specs.Limits.{longest}
 use Rattle.numbers.specs.Sum.{one}
-use Rattle.records.specs.Records.{width, records, key, keys, blank, lookup}
+use Rattle.records.specs.Records.{width, records, keys, blank, lookup}
 use Rattle.records.specs.Held.{rank, held}
 use Rattle.records.specs.Bumped.{raised, bumpedAt, Bumpable, Written}
 use Rattle.records.proofs.Parts.{length-parts, cell-at, parts-set, parts-insert}

@@ -1,6 +1,6 @@
 -- A part of a slice from a to e that was lent and has come back as ys: the slice then holds `take a l ++ (ys ++ drop (e - a) (drop a l))`.
 -- Assumes nothing.
-use mathlib.Core.Path.{_≡_, refl, sym, ap, _∙_}
+use mathlib.Core.Path.{_≡_, sym, ap, _∙_}
 use mathlib.Core.List.{List, _++_, append-assoc}
 use Prim.Native.Nat.{ℕ, _+_, _-_, _≤_}
 use native.Mathlib.Omega.{arith}

@@ -14,3 +14,4 @@ pub mod Feeding
 pub mod Growing
 pub mod KeyWalk
 pub mod FeedWalk
+pub mod Settling

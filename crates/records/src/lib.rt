@@ -102,8 +102,10 @@ pub fn remove_desk(numbers: &mut [u32], n: usize, desk: u32) -> usize
     requires { ⌜ Removable desk n (now numbers) ⌝ }
     ensures { λ r. ⌜ Written (without desk (records n (now (numbers .entry)))) r (now (numbers .entry)) (now (numbers .exit)) ⌝ }
 {
-    let first = place_of(numbers, n, desk * DESK_SPAN);
-    let next = place_of(numbers, n, (desk + 1) * DESK_SPAN);
+    let least = desk * DESK_SPAN;
+    let past = least + DESK_SPAN;
+    let first = place_of(numbers, n, least);
+    let next = place_of(numbers, n, past);
     let gone = next - first;
     let from = WIDTH * first;
     let to = WIDTH * n;
@@ -119,12 +121,12 @@ pub fn missing_in(numbers: &[u32], n: usize, desk: u32, recent: &[u32]) -> usize
     let mut key = desk * DESK_SPAN;
     let mut weight = NEWEST;
     let mut count: usize = 0;
-    let mut long: usize = 0;
-    while long <= recent.len() {
+    let mut sought: usize = 0;
+    while sought <= recent.len() {
         count = count + lacks(numbers, n, key);
-        key = longer(key, weight, recent, long);
+        key = longer(key, weight, recent, sought);
         weight = weight / 8;
-        long = long + 1;
+        sought = sought + 1;
     }
     count
 }
@@ -146,12 +148,12 @@ pub fn feed_records(
     let mut key = desk * DESK_SPAN;
     let mut weight = NEWEST;
     let mut count = n;
-    let mut long: usize = 0;
-    while long <= recent.len() {
+    let mut done: usize = 0;
+    while done <= recent.len() {
         count = bump(numbers, count, key, cell);
-        key = longer(key, weight, recent, long);
+        key = longer(key, weight, recent, done);
         weight = weight / 8;
-        long = long + 1;
+        done = done + 1;
     }
     count
 }

@@ -1,5 +1,5 @@
--- `records::feed_records` meets its contract: the contexts that are shorter than `long` have got one more. Assumes nothing.
-use Prim.Native.Nat.{ℕ, _+_, _-_}
+-- `records::feed_records` meets its contract: the contexts that are shorter than `done` have got one more. Assumes nothing.
+use Prim.Native.Nat.{_+_, _-_}
 use native.Mathlib.Omega.{arith}
 use borrow.Author.Needs.{needs}
 use lib.ListN.{length}
@@ -9,11 +9,11 @@ use Rattle.records.proofs.feed_records.Statement.{statement}
 use Rattle.records.proofs.feed_records.Tie as tie
 
 abbrev Inv-loop : tie.InvT-loop
-Inv-loop l₀ n desk sample symbol recent cell key₀ weight₀ count₀ long₀ l key weight count long =
-    Walked desk sample symbol recent n l₀ l key weight count long
+Inv-loop l₀ n desk sample symbol recent cell key₀ weight₀ count₀ done₀ l key weight count done =
+    Walked desk sample symbol recent n l₀ l key weight count done
 
 abbrev μ-loop : tie.MeasureT-loop
-μ-loop l₀ n desk sample symbol recent cell key₀ weight₀ count₀ long₀ l key weight count long = length recent + 1 - long
+μ-loop l₀ n desk sample symbol recent cell key₀ weight₀ count₀ done₀ l key weight count done = length recent + 1 - done
 
 mul-cell : tie.Need-mul-cell Inv-loop μ-loop
 mul-cell c = omega arith
@@ -39,17 +39,17 @@ bump-requires c κs =
     let x = start .args in
     let at = c .before .before .loop in
     walk-asks (x .desk) (x .sample) (x .symbol) (x .recent .now) (x .n) (x .numbers .now) (start .pre)
-    (at .numbers) (at .key) (at .weight) (at .count) (at .long) (at .inv) (c .before .loop-test .taken)
+    (at .numbers) (at .key) (at .weight) (at .count) (at .done) (at .inv) (omega arith)
 
 longer-requires : tie.Need-longer-requires Inv-loop μ-loop
 longer-requires c κs =
     let start = c .before .before .before .before .before .before .before .before in
     let x = start .args in
     let at = c .before .before .before .before .before .loop in
-    walk-fits (x .desk) (x .recent .now) (x .n) (x .numbers .now) (start .pre .asked) (at .key) (at .weight) (at .long) (at .inv .walk)
+    walk-fits (x .desk) (x .recent .now) (x .n) (x .numbers .now) (start .pre .asked) (at .key) (at .weight) (at .done) (at .inv .walk)
 
-add-long : tie.Need-add-long Inv-loop μ-loop
-add-long c = omega arith
+add-done : tie.Need-add-done Inv-loop μ-loop
+add-done c = omega arith
 
 loop-less : tie.Need-loop-less Inv-loop μ-loop
 loop-less c = omega arith
@@ -61,7 +61,7 @@ loop-again c =
     let at = c .before .before .before .before .before .before .loop in
     let bumped = c .before .before .before .bump in
     walked-on (x .desk) (x .sample) (x .symbol) (x .recent .now) (x .n) (x .numbers .now) (start .pre)
-    (at .numbers) (at .key) (at .weight) (at .count) (at .long) (at .inv) (c .before .before .before .before .before .loop-test .taken)
+    (at .numbers) (at .key) (at .weight) (at .count) (at .done) (at .inv) (omega arith)
     (bumped .last .0) (bumped .result) (c .longer .result) (search needs) (bumped .ensures) (c .longer .ensures)
 
 same-length : tie.Need-same-length Inv-loop μ-loop
@@ -73,7 +73,7 @@ returns c =
     let x = start .args in
     let at = c .before .loop in
     walked-end (x .desk) (x .sample) (x .symbol) (x .recent .now) (x .n) (x .numbers .now) (start .pre)
-    (at .numbers) (at .key) (at .weight) (at .count) (at .long) (at .inv) (c .loop-test .left)
+    (at .numbers) (at .key) (at .weight) (at .count) (at .done) (at .inv) (omega arith)
 
 pub feed-records-spec : {M : Type 1} → statement M
 feed-records-spec =
@@ -88,7 +88,7 @@ feed-records-spec =
     loop-holds
     bump-requires
     longer-requires
-    add-long
+    add-done
     loop-less
     loop-again
     same-length

@@ -1,7 +1,7 @@
--- `records::missing_in` meets its contract: the contexts that are shorter than `long` have been looked for. Assumes nothing.
+-- `records::missing_in` meets its contract: the contexts that are shorter than `sought` have been looked for. Assumes nothing.
 use mathlib.Core.Path.{_≡_, ap, _∙_}
 use mathlib.Core.Bool.{not}
-use Prim.Native.Nat.{ℕ, suc, _+_, _-_}
+use Prim.Native.Nat.{ℕ, suc, _+_, _-_, _≤_}
 use native.Mathlib.Omega.{arith}
 use lib.ListN.{length}
 use Rattle.numbers.specs.Sum.{sum}
@@ -14,10 +14,10 @@ use Rattle.records.proofs.missing_in.Statement.{statement}
 use Rattle.records.proofs.missing_in.Tie as tie
 
 abbrev Inv-loop : tie.InvT-loop
-Inv-loop l n desk recent key₀ weight₀ count₀ long₀ key weight count long = Walk desk recent key weight long × Sought desk recent (records n l) count long
+Inv-loop l n desk recent key₀ weight₀ count₀ sought₀ key weight count sought = Walk desk recent key weight sought × Sought desk recent (records n l) count sought
 
 abbrev μ-loop : tie.MeasureT-loop
-μ-loop l n desk recent key₀ weight₀ count₀ long₀ key weight count long = length recent + 1 - long
+μ-loop l n desk recent key₀ weight₀ count₀ sought₀ key weight count sought = length recent + 1 - sought
 
 mul-key : tie.Need-mul-key Inv-loop μ-loop
 mul-key c = omega arith
@@ -41,10 +41,10 @@ longer-requires c κs =
     let start = c .before .before .before .before .before in
     let x = start .args in
     let at = c .before .before .loop in
-    walk-fits (x .desk) (x .recent .now) (x .n) (x .numbers .now) (start .pre) (at .key) (at .weight) (at .long) (at .inv .0)
+    walk-fits (x .desk) (x .recent .now) (x .n) (x .numbers .now) (start .pre) (at .key) (at .weight) (at .sought) (at .inv .0)
 
-add-long : tie.Need-add-long Inv-loop μ-loop
-add-long c = omega arith
+add-sought : tie.Need-add-sought Inv-loop μ-loop
+add-sought c = omega arith
 
 loop-less : tie.Need-loop-less Inv-loop μ-loop
 loop-less c = omega arith
@@ -54,16 +54,16 @@ loop-again c =
     let start = c .before .before .before .before .before .before in
     let x = start .args in
     let at = c .before .before .before .loop in
-    let on = c .before .before .loop-test .taken in (
-      walk-on (x .desk) (x .recent .now) (x .n) (x .numbers .now) (start .pre) (at .key) (at .weight) (at .long) (at .inv .0) (c .longer .result) on (c .longer .ensures),
-      sought-on (x .desk) (x .recent .now) (records (x .n) (x .numbers .now)) (at .count) (at .long) (at .key) (c .before .lacks .result) (at .inv .1) (at .inv .0 .key-is on) (c .before .lacks .ensures),
+    let on : at .sought ≤ length (x .recent .now) = omega arith in (
+      walk-on (x .desk) (x .recent .now) (x .n) (x .numbers .now) (start .pre) (at .key) (at .weight) (at .sought) (at .inv .0) (c .longer .result) on (c .longer .ensures),
+      sought-on (x .desk) (x .recent .now) (records (x .n) (x .numbers .now)) (at .count) (at .sought) (at .key) (c .before .lacks .result) (at .inv .1) (at .inv .0 .key-is on) (c .before .lacks .ensures),
     )
 
 returns : tie.Need-returns Inv-loop μ-loop
 returns c =
     let x = c .before .before .before .before .args in
     let at = c .before .loop in
-    let all : at .long ≡ suc (length (x .recent .now)) = omega (arith, at .inv .0 .within) in
+    let all : at .sought ≡ suc (length (x .recent .now)) = omega (arith, at .inv .0 .within) in
     at .inv .1 .so-far ∙ ap (λ (m : ℕ). sum m (lacks (x .desk) (x .recent .now) (records (x .n) (x .numbers .now)))) all
 
 pub missing-in-spec : {M : Type 1} → statement M
@@ -77,7 +77,7 @@ missing-in-spec =
     lacks-requires
     add-count
     longer-requires
-    add-long
+    add-sought
     loop-less
     loop-again
     returns)
