@@ -20,7 +20,8 @@ use Rattle.records.proofs.Parts.{length-parts}
 use Rattle.records.proofs.Lent.{agree-later}
 use Rattle.records.proofs.Bumping.{length-bumped}
 use Rattle.records.proofs.Counting.{count-cell, cell-past, cell-within}
-use Rattle.records.proofs.Feeding.{context-take, rising-fedTo, lookup-fedTo}
+use Rattle.records.proofs.Followed.{context-take}
+use Rattle.records.proofs.Feeding.{rising-fedTo, lookup-fedTo}
 use Rattle.records.proofs.Growing.{lacks, held-yet, length-fedTo}
 use Rattle.records.proofs.KeyWalk.{Walk, walk-start, walk-on}
 

@@ -15,8 +15,8 @@ use Rattle.contexts.specs.Keys.{deskSpan, keyOf}
 use Rattle.contexts.proofs.Strings.{context-length}
 use Rattle.contexts.proofs.KeyOrder.{digits-nil, contextKey-lt, key-step}
 use Rattle.records.specs.Held.{held}
-use Rattle.records.specs.Fed.{Asked}
-use Rattle.records.proofs.Feeding.{context-take}
+use Rattle.records.specs.Fed.{Askable}
+use Rattle.records.proofs.Followed.{context-take}
 use Rattle.records.proofs.Growing.{lacks}
 
 -- ---- the key of the next context
@@ -30,7 +30,7 @@ pub record Walk (d : ℕ) (r : List ℕ) (key weight j : ℕ) : Type 0 where
 pub walk-start : (d : ℕ) (r : List ℕ) → Walk d r (d * deskSpan) 262144 0
 walk-start d r = record { within = omega arith; key-is = λ h. omega (arith, digits-nil deepest); weight-is = λ h. refl }
 
-module _ (d : ℕ) (r : List ℕ) (n : ℕ) (l : List ℕ) (q : Asked d r n l) (key weight j : ℕ) (w : Walk d r key weight j) where
+module _ (d : ℕ) (r : List ℕ) (n : ℕ) (l : List ℕ) (q : Askable d r n l) (key weight j : ℕ) (w : Walk d r key weight j) where
   next : j < length r → (key + (getD r j 0 * weight + 1) ≡ keyOf d (take (suc j) r)) × (weight / 8 ≡ 8 ^ (deepest - (j + 1)))
   next h =
       let short = context-length mostSymbols deepest r (q .context) in

@@ -11,16 +11,18 @@ ghost use Rattle.contexts.specs.Sitting.{eight};
 ghost use Rattle.records.specs.Records.{width, records, blank, lookup};
 ghost use Rattle.records.specs.Held.{held, recordAt, tableOf, without, Standing, Removable, Placed};
 ghost use Rattle.records.specs.Bumped.{raised, bumpedAt, Cell, Bumpable, Written};
-ghost use Rattle.records.specs.Fed.{sampleOf, fed, missing, Asked, Feedable};
+ghost use Rattle.records.specs.Fed.{sampleOf, fed, missing, Askable, Feedable};
 
 // How many numbers a record has.
 const WIDTH: usize = 24;
 
+// How many counts a sample has in a record.
 const SYMBOLS: usize = 8;
 
-// How many keys a desk has, and what the most recent symbol weighs in a key.
+// How many keys a desk has.
 const DESK_SPAN: u32 = 2097152;
 
+// What the most recent symbol weighs in a key; each older one weighs an eighth of the one before.
 const NEWEST: u32 = 262144;
 
 // The counts of the record at a place.
@@ -78,7 +80,7 @@ pub fn table_of(numbers: &[u32], n: usize, key: u32) -> [[u32; 8]; 2]
     [[0u32; 8]; 2]
 }
 
-// One more at a cell of the record of a key, which is put in its place in the order where none of the first `n` has it.
+// One more at a cell of the record under a key; where none of the first `n` has the key, a new one is put in its place in the order.
 // Gives the number of records then.
 pub fn bump(numbers: &mut [u32], n: usize, key: u32, cell: usize) -> usize
     requires { ⌜ Bumpable key cell n (now numbers) ⌝ }
@@ -115,7 +117,7 @@ pub fn remove_desk(numbers: &mut [u32], n: usize, desk: u32) -> usize
 
 // How many of the contexts that a symbol follows none of the first `n` records has. `recent` are the symbols before it, most recent first.
 pub fn missing_in(numbers: &[u32], n: usize, desk: u32, recent: &[u32]) -> usize
-    requires { ⌜ Asked desk (now recent) n (now numbers) ⌝ }
+    requires { ⌜ Askable desk (now recent) n (now numbers) ⌝ }
     ensures { λ r. ⌜ r ≡ missing desk (now (recent .entry)) (records n (now (numbers .entry))) ⌝ }
 {
     let mut key = desk * DESK_SPAN;
