@@ -16,3 +16,4 @@ pub mod Growing
 pub mod KeyWalk
 pub mod FeedWalk
 pub mod Settling
+pub mod Examples

@@ -85,6 +85,10 @@ rank-mono k k′ (x ∷ xs) h = go (ltb x k) refl (rank-mono k k′ xs h)
         rw (e, lt-ltb x k′ (omega arith)) (suc-le-suc ih)
     go false e ih = rw e (omega arith)
 
+-- the place of an equal key
+pub rank-same : (k k′ : ℕ) (ks : List ℕ) (p : ℕ) → p ≡ rank k ks → k ≡ k′ → p ≡ rank k′ ks
+rank-same k k′ ks p at e = at ∙ ap (λ (x : ℕ). rank x ks) e
+
 -- a key that is not above the bound stands before all
 pub rank-none : (k lo : ℕ) (ks : List ℕ) → k ≤ lo → T (rises lo ks) → rank k ks ≡ 0
 unfolding rank

@@ -1,12 +1,12 @@
 -- `records::remove_desk` meets its contract: the desk's records lie between two places. Assumes nothing.
-use mathlib.Core.Path.{_≡_, ap, _∙_}
-use Prim.Native.Nat.{ℕ, _≤_, _+_, _*_}
+use mathlib.Core.Path.{_≡_}
+use Prim.Native.Nat.{_≤_, _+_, _*_}
 use native.Mathlib.Omega.{arith}
 use borrow.Author.Needs.{needs}
 use Rattle.contexts.specs.Keys.{deskSpan}
 use Rattle.records.specs.Records.{records, keys}
 use Rattle.records.specs.Held.{rank}
-use Rattle.records.proofs.Rising.{rank-mono}
+use Rattle.records.proofs.Rising.{rank-mono, rank-same}
 use Rattle.records.proofs.Removing.{removed}
 use Rattle.records.proofs.remove_desk.Statement.{statement}
 use Rattle.records.proofs.remove_desk.Tie as tie
@@ -16,8 +16,7 @@ next-at : (c : tie.After-place-of2) → (let x = c .before .before .before .befo
     c .place-of2 .result ≡ rank ((x .desk + 1) * deskSpan) (keys (records (x .n) (x .numbers .now))))
 next-at c =
     let x = c .before .before .before .before .before .args in
-    let past : x .desk * deskSpan + deskSpan ≡ (x .desk + 1) * deskSpan = omega arith in
-    c .place-of2 .ensures .at ∙ ap (λ (k : ℕ). rank k (keys (records (x .n) (x .numbers .now)))) past
+    rank-same _ ((x .desk + 1) * deskSpan) (keys (records (x .n) (x .numbers .now))) (c .place-of2 .result) (c .place-of2 .ensures .at) (omega arith)
 
 in-order : (c : tie.After-place-of2) → c .before .before .place-of .result ≤ c .place-of2 .result
 in-order c =
