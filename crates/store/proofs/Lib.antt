@@ -1,0 +1,13 @@
+pub mod Many
+pub mod Strings
+pub mod Digits
+pub mod Parents
+pub mod Rising
+pub mod Marks
+pub mod Walking
+pub mod Climbing
+pub mod Desks
+pub mod Whole
+pub mod Loops
+pub mod Parts
+pub mod Turn
