@@ -11,3 +11,11 @@ pub mod Whole
 pub mod Loops
 pub mod Parts
 pub mod Turn
+pub mod Passing
+pub mod Standing
+pub mod Converse
+pub mod Keeping
+pub mod Totalling
+pub mod Holding
+pub mod Fitting
+pub mod Local

@@ -1,12 +1,12 @@
 -- Laws of contexts with an oldest symbol: `p ++ a ∷ []` has the parent p. Assumes nothing.
 use mathlib.Core.Path.{_≡_, refl, ap, ap₂, _∙_}
-use mathlib.Core.Bool.{_&&_}
+use mathlib.Core.Logic.{_⊎_, inl, inr}
 use mathlib.Core.List.{List, [], _∷_, _++_}
 use Prim.Native.Nat.{ℕ, zero, suc, _+_, _-_, _≤_, _<_}
 use native.Mathlib.Omega.{arith}
 use lib.ListN.{length, take, length-append}
 use lib.Seq.{take-at}
-use lib.Dec.{T, eqb, ltb, eqb→eq, eqb-refl}
+use lib.Dec.{T, eqb, eqb→eq}
 use Rattle.numbers.proofs.Tests.{both, left, right}
 use Rattle.contexts.specs.Context.{isContext, begins}
 use Rattle.contexts.proofs.Strings.{newest-below, older-context, context-cons}
@@ -50,3 +50,13 @@ context-snoc A zero p a c l h = absurd (omega arith)
 context-snoc A (suc d) [] a c l h = context-cons A d a [] l tt
 context-snoc A (suc d) (x ∷ p) a c l h =
     context-cons A d x (p ++ a ∷ []) (newest-below A d x p c) (context-snoc A d p a (older-context A d x p c) l (omega arith))
+
+-- what begins a context is the whole of it, or begins its parent
+pub begins-cut : (t p : List ℕ) (a : ℕ) → T (begins t (p ++ a ∷ [])) → (t ≡ p ++ a ∷ []) ⊎ T (begins t p)
+begins-cut [] p a h = inr tt
+begins-cut (x ∷ []) [] a h = inl (ap (λ (y : ℕ). y ∷ []) (eqb→eq x a (left (eqb x a) _ h)))
+begins-cut (x ∷ y ∷ t) [] a h = absurd (right (eqb x a) (begins (y ∷ t) []) h)
+begins-cut (x ∷ t) (y ∷ p) a h = elim (begins-cut t p a (right (eqb x y) (begins t (p ++ a ∷ [])) h)) [
+  | inl e ↦ inl (ap₂ {C = List ℕ} (λ (z : ℕ) (r : List ℕ). z ∷ r) (eqb→eq x y (left (eqb x y) (begins t (p ++ a ∷ [])) h)) e)
+  | inr b ↦ inr (both (eqb x y) (begins t p) (left (eqb x y) (begins t (p ++ a ∷ [])) h) b)
+]

@@ -11,7 +11,7 @@ use Rattle.numbers.specs.Limits.{fewestSymbols, mostSymbols, deepest, longest, 
 use Rattle.numbers.specs.Sum.{sum}
 use Rattle.contexts.specs.Context.{isContext}
 use Rattle.contexts.specs.Keys.{keyOf}
-use Rattle.contexts.specs.Sitting.{Sample, Progress, totalIn, contextsHeld, sat}
+use Rattle.contexts.specs.Sitting.{Sample, Sitting, Progress, totalIn, contextsHeld, sat}
 use Rattle.records.specs.Records.{lookup}
 use Rattle.replay.specs.Room.{Opening, Desk, closed, opened, Room, reserved}
 use Rattle.store.specs.Layout.{room, isOpen, symbolsAt, depthAt, reserveAt, sizeAt, slotsAt, recordsIn, countIn}
@@ -28,6 +28,10 @@ progressAt s d = record {
   recent = λ i. take (min (sizeAt s d i) (depthAt s d)) (slotsAt s d i);
   count = λ i c a. cond (isContext (symbolsAt s d) (depthAt s d) c) (countIn i (lookup (keyOf d c) (recordsIn s)) a) 0;
 }
+
+-- the sitting at a desk
+abbrev pub sittingAt : List ℕ → ℕ → Sitting
+sittingAt s d = sat (symbolsAt s d) (depthAt s d) (progressAt s d)
 
 abbrev pub deskAt : List ℕ → ℕ → Desk Progress
 deskAt s d = cond (ltb d desks && isOpen s d) (opened (openingAt s d) (progressAt s d)) closed
