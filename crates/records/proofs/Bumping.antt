@@ -1,5 +1,5 @@
--- What one more count under a key does to records whose keys rise: to what stands under each key, to the order, to what is held, to their number,
--- and to the part that a test on keys keeps. Assumes nothing.
+-- What one more count under a key does to records whose keys rise: to what stands under each key, to the order, to what is held and to their number.
+-- Assumes nothing.
 use mathlib.Core.Path.{_≡_, refl, sym, ap, _∙_}
 use mathlib.Core.Logic.{_≢_}
 use mathlib.Core.Bool.{Bool, true, false, cond, not, _||_, or-self-left}

@@ -1,5 +1,4 @@
--- What a feed does to records whose keys rise: to what stands under each key, to what is held, to the order, and to the number of records.
--- Assumes nothing.
+-- What a feed does to records whose keys rise: to what stands under each key, to what is held and to the order. Assumes nothing.
 use mathlib.Core.Path.{_≡_, refl, sym, ap, _∙_}
 use mathlib.Core.Bool.{Bool, true, false, cond, _&&_, _||_, and-false, or-assoc}
 use mathlib.Core.List.{List}

@@ -81,7 +81,7 @@ pub fn table_of(numbers: &[u32], n: usize, key: u32) -> [[u32; 8]; 2]
 }
 
 // One more at a cell of the record under a key; where none of the first `n` has the key, a new one is put in its place in the order.
-// Gives the number of records then.
+// Gives the number of records then. A new record uses up the 24 numbers behind the `n` records, and nothing further on is written.
 pub fn bump(numbers: &mut [u32], n: usize, key: u32, cell: usize) -> usize
     requires { ⌜ Bumpable key cell n (now numbers) ⌝ }
     ensures { λ r. ⌜ Written (bumpedAt key cell (records n (now (numbers .entry)))) r (now (numbers .entry)) (now (numbers .exit)) ⌝ }
