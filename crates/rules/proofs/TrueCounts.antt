@@ -12,7 +12,7 @@ use Rattle.numbers.specs.Sum.{one}
 use Rattle.contexts.specs.Context.{isContext}
 use Rattle.contexts.specs.Context as string
 use Rattle.contexts.specs.Counts.{N}
-use Rattle.contexts.specs.Sitting.{Sample, first, second, sameSample, Progress}
+use Rattle.contexts.specs.Sitting.{Sample, first, second, sameSample, Progress, sampleOf}
 use Rattle.contexts.proofs.Strings.{context-cons, context-length}
 use Rattle.replay.specs.Room.{Making, Opening, Desk, closed, opened, new}
 use Rattle.replay.specs.Table.{NoneApplies}
@@ -20,7 +20,7 @@ use Rattle.replay.specs.Machine.{Call}
 use Rattle.replay.specs.Serial.{Told, outcomes, after, struck, sittings}
 use Rattle.replay.specs.Alone.{Alone, begins, goes-on, ends, asks}
 use Rattle.replay.proofs.Reached.{asks-append, open-alone}
-use Rattle.rules.specs.Feed.{countedFrom, sampleOf, fresh, fed, notOfSitting}
+use Rattle.rules.specs.Feed.{countedFrom, fresh, fed, notOfSitting}
 use Rattle.rules.specs.Rules.{Ask, feed, reporting, charting, rules, linesOf, nextOf}
 use Rattle.rules.specs.Strings.{push, longer, stringsOf, StandsFor, OfOwnStrings}
 
