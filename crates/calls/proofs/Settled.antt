@@ -2,16 +2,20 @@
 use Prim.Native.Nat.{ℕ}
 use native.Mathlib.Omega.{arith}
 use mathlib.Core.Path.{_≡_, refl, sym, ap, subst, _∙_}
-use mathlib.Core.Bool.{Bool, true, false}
-use mathlib.Core.List.{List}
+use mathlib.Core.Bool.{Bool, true, false, cond}
+use mathlib.Core.List.{List, [], _∷_}
 use lib.ListN.{length, drop}
-use Rattle.replay.specs.Table.{Outcome, refused, answered}
-use Rattle.replay.specs.Machine.{Call, verdict, move, shift, settle}
+use Rattle.contexts.specs.Sitting.{Progress, sat}
+use Rattle.replay.specs.Room.{Desk, closed, opened, Room}
+use Rattle.replay.specs.Table.{Line, number, applies, Outcome, refused, answered, verdictOf}
+use Rattle.replay.specs.Machine.{Call, atDesk, asking, noSuchDesk, ownLines, askingTable, tableAt, tableOf, answerAt, answerOf, verdict, move, shift, settle}
 use Rattle.store.specs.Layout.{storeSize, room}
 use Rattle.store.specs.Sound.{soundb}
 use Rattle.store.specs.Meaning.{meaning}
-use Rattle.rules.specs.Rules.{Answer, rules}
-use Rattle.calls.specs.Promises.{Moves, Asks}
+use Rattle.rules.specs.Report.{Reported, report}
+use Rattle.rules.specs.Rules as sitting
+use Rattle.rules.specs.Rules.{Answer, reporting, reported, rules}
+use Rattle.calls.specs.Promises.{Moves, Asks, Reports}
 
 -- ---- two results that a promise allows
 
@@ -43,6 +47,51 @@ module _ (before : List ℕ) (c : Call rules) (o o′ : Outcome Answer) where
       go : (b : Bool) → soundb before ≡ b → o ≡ o′
       go true e = p .answers e ∙ sym (q .answers e)
       go false e = p .unsound e ∙ sym (q .unsound e)
+
+-- what a report's question can be told: a number, or rows and a score
+data Told : Outcome Answer → Type 0 where
+  by-number : (n : ℕ) → Told (refused n)
+  by-rows : (x : Reported) → Told (answered (reported x))
+
+judged : (ls : List Line) (x : Reported) → Told (verdictOf ls (reported x))
+unfolding verdictOf
+judged [] x = by-rows x
+judged (l ∷ ls) x = go (applies l) (judged ls x)
+  where
+    go : (b : Bool) → Told (verdictOf ls (reported x)) → Told (cond b (refused (number l)) (verdictOf ls (reported x)))
+    go true t = by-number (number l)
+    go false t = t
+
+report-told : (ρ : Room Progress) (d sheet place : ℕ) → Told (verdict rules ρ (atDesk d (asking (reporting sheet place))))
+unfolding verdict verdictOf tableOf tableAt askingTable answerOf answerAt sitting.answerOf
+report-told ρ d sheet place = go (ρ .at d)
+  where
+    no-sitting : (b : Bool) → Told (cond b (refused 2) (refused 4))
+    no-sitting true = by-number 2
+    no-sitting false = by-number 4
+
+    go : (D : Desk Progress) → Told (verdictOf (askingTable rules d D (reporting sheet place)) (answerAt rules D (asking (reporting sheet place))))
+    go closed = no-sitting (noSuchDesk d)
+    go (opened o p) = judged (askingTable rules d (opened o p) (reporting sheet place)) (report (sat (o .symbols) (o .depth) p))
+
+asked-told : (store : List ℕ) (d sheet place : ℕ) (o : Outcome Answer) → Asks store (atDesk d (asking (reporting sheet place))) o → Told o
+asked-told store d sheet place o p = go (soundb store) refl
+  where
+    go : (b : Bool) → soundb store ≡ b → Told o
+    go true e = subst Told (sym (p .answers e)) (report-told (meaning store) d sheet place)
+    go false e = subst Told (sym (p .unsound e)) (by-number 1)
+
+-- THEOREM. Whatever a report's promise allows has one answer, and one sheet
+pub reports-settled : (store : List ℕ) (d place : ℕ) (o o′ : Outcome Answer) (before x y : List ℕ)
+    → Reports store d place o before x → Reports store d place o′ before y → (o ≡ o′) × (x ≡ y)
+reports-settled store d place o o′ before x y p q = (same, go o refl (asked-told store d (length before) place o (p .asks)))
+  where
+    same : o ≡ o′
+    same = asks-settled store (atDesk d (asking (reporting (length before) place))) o o′ (p .asks) (q .asks)
+
+    go : (u : Outcome Answer) → o ≡ u → Told u → x ≡ y
+    go u e (by-number n) = p .refused-stays n e ∙ sym (q .refused-stays n (sym same ∙ e))
+    go u e (by-rows z) = p .written z e ∙ sym (q .written z (sym same ∙ e))
 
 -- ---- ways to keep a promise
 
