@@ -104,14 +104,10 @@ pub fn table_ok(store: &[u32], held: &[u32], x: u64, y: u64) -> bool
 {
     let desk = (held[0] / DESK_SPAN) as usize;
     let a = field_at(store, desk, SYMBOLS);
-    if counts_ok(held, COUNTS_FIRST, x, a, field_at(store, desk, SIZE_FIRST)) {
-        if counts_ok(
-            held,
-            COUNTS_SECOND,
-            y,
-            a,
-            field_at(store, desk, SIZE_SECOND),
-        ) {
+    let n = field_at(store, desk, SIZE_FIRST);
+    let m = field_at(store, desk, SIZE_SECOND);
+    if counts_ok(held, COUNTS_FIRST, x, a, n) {
+        if counts_ok(held, COUNTS_SECOND, y, a, m) {
             return 0 < x + y;
         }
     }
