@@ -102,11 +102,11 @@ stands-next o w p (reporting sheet place) S n = S
 stands-next o w p (charting len code a) S n = S
 
 -- what a desk stands for: nothing where it is closed
-abbrev DeskFor : (Sample → List ℕ) → Desk Progress → Type 0
+abbrev pub DeskFor : (Sample → List ℕ) → Desk Progress → Type 0
 DeskFor w closed = Unit {0}
 DeskFor w (opened o p) = StandsFor o w p
 
-stands-alone : {ts : List (Told rules)} {D : Desk Progress} → Alone rules ts D → DeskFor (stringsOf (asks rules ts)) D
+pub stands-alone : {ts : List (Told rules)} {D : Desk Progress} → Alone rules ts D → DeskFor (stringsOf (asks rules ts)) D
 unfolding stringsOf asks
 stands-alone (begins o) = stands-fresh o
 stands-alone (goes-on {ts = ts} {o = o} {s = p} al q n) =
