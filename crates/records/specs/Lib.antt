@@ -1,1 +1,4 @@
 pub mod Records
+pub mod Held
+pub mod Bumped
+pub mod Fed

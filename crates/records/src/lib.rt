@@ -1,1 +1,178 @@
-// The records of a store: one dense run, strictly rising in key.
+// The records of a store: one dense run of records of 24 numbers, strictly rising in key.
+// Each function works on the store's part from the header on, of any length that holds the records.
+ghost use mathlib.Core.Path.{_≡_};
+ghost use mathlib.Core.List.{_++_};
+ghost use Prim.Native.Nat.{_+_, _-_, _*_, _≤_, _<_};
+ghost use lib.ListN.{length, take, drop, getD};
+ghost use Rattle.numbers.specs.Limits.{longest};
+ghost use Rattle.contexts.specs.Sitting.{eight};
+ghost use Rattle.records.specs.Records.{width, records, blank, lookup};
+ghost use Rattle.records.specs.Held.{held, recordAt, tableOf, without, Standing, Removable, Placed};
+ghost use Rattle.records.specs.Bumped.{raised, bumpedAt, Cell, Bumpable, Written};
+
+const WIDTH: usize = 24;
+
+const SYMBOLS: usize = 8;
+
+const DESK_SPAN: u32 = 2097152;
+
+// The counts of the record at a place.
+pub fn counts_at(numbers: &[u32], at: usize) -> [[u32; 8]; 2]
+    requires { ⌜ width * (at + 1) ≤ length (now numbers) ⌝ }
+    ensures { λ r. ⌜ r ≡ tableOf (recordAt at (now (numbers .entry))) ⌝ }
+{
+    let start = WIDTH * at;
+    let first = eight_after(numbers, start);
+    let second = eight_after(numbers, start + SYMBOLS);
+    [first, second]
+}
+
+// The place of a key among the first `n` records, or where it would stand: by halving.
+pub fn place_of(numbers: &[u32], n: usize, key: u32) -> usize
+    requires { ⌜ Standing n (now numbers) ⌝ }
+    ensures { λ r. ⌜ Placed key n r (now (numbers .entry)) ⌝ }
+{
+    let mut low: usize = 0;
+    let mut high = n;
+    while low < high {
+        let middle = low + (high - low) / 2;
+        if numbers[WIDTH * middle] < key {
+            low = middle + 1;
+        } else {
+            high = middle;
+        }
+    }
+    low
+}
+
+// Whether one of the first `n` records has a key.
+pub fn holds(numbers: &[u32], n: usize, key: u32) -> bool
+    requires { ⌜ Standing n (now numbers) ⌝ }
+    ensures { λ r. ⌜ r ≡ held key (records n (now (numbers .entry))) ⌝ }
+{
+    let at = place_of(numbers, n, key);
+    if at < n {
+        return numbers[WIDTH * at] == key;
+    }
+    false
+}
+
+// The counts under a key: zeros where none of the first `n` records has it.
+pub fn table_of(numbers: &[u32], n: usize, key: u32) -> [[u32; 8]; 2]
+    requires { ⌜ Standing n (now numbers) ⌝ }
+    ensures { λ r. ⌜ r ≡ tableOf (lookup key (records n (now (numbers .entry)))) ⌝ }
+{
+    let at = place_of(numbers, n, key);
+    if at < n {
+        if numbers[WIDTH * at] == key {
+            return counts_at(numbers, at);
+        }
+    }
+    [[0u32; 8]; 2]
+}
+
+// One more at a cell of the record of a key, which is put in its place in the order where none of the first `n` has it.
+// Gives the number of records then.
+pub fn bump(numbers: &mut [u32], n: usize, key: u32, cell: usize) -> usize
+    requires { ⌜ Bumpable key cell n (now numbers) ⌝ }
+    ensures { λ r. ⌜ Written (bumpedAt key cell (records n (now (numbers .entry)))) r (now (numbers .entry)) (now (numbers .exit)) ⌝ }
+{
+    let at = place_of(numbers, n, key);
+    if at < n {
+        if numbers[WIDTH * at] == key {
+            raise(numbers, WIDTH * at + cell);
+            return n;
+        }
+    }
+    let from = WIDTH * at;
+    let to = WIDTH * n + WIDTH;
+    insert(&mut numbers[from..to], key, cell);
+    n + 1
+}
+
+// Takes a desk's records out of the first `n`. Gives the number of records then.
+pub fn remove_desk(numbers: &mut [u32], n: usize, desk: u32) -> usize
+    requires { ⌜ Removable desk n (now numbers) ⌝ }
+    ensures { λ r. ⌜ Written (without desk (records n (now (numbers .entry)))) r (now (numbers .entry)) (now (numbers .exit)) ⌝ }
+{
+    let first = place_of(numbers, n, desk * DESK_SPAN);
+    let next = place_of(numbers, n, (desk + 1) * DESK_SPAN);
+    let gone = next - first;
+    let from = WIDTH * first;
+    let to = WIDTH * n;
+    shift_down(&mut numbers[from..to], WIDTH * gone);
+    n - gone
+}
+
+// The eight numbers after a place.
+fn eight_after(numbers: &[u32], at: usize) -> [u32; 8]
+    requires { ⌜ at + 9 ≤ length (now numbers) ⌝ }
+    ensures { λ r. ⌜ r ≡ eight (λ a. getD (now (numbers .entry)) (at + (1 + a)) 0) ⌝ }
+{
+    [
+        numbers[at + 1],
+        numbers[at + 2],
+        numbers[at + 3],
+        numbers[at + 4],
+        numbers[at + 5],
+        numbers[at + 6],
+        numbers[at + 7],
+        numbers[at + 8],
+    ]
+}
+
+// One more at a place.
+fn raise(numbers: &mut [u32], at: usize)
+    requires { ⌜ (at < length (now numbers)) × (getD (now numbers) at 0 ≤ longest) ⌝ }
+    ensures { λ _. ⌜ now (numbers .exit) ≡ raised at (now (numbers .entry)) ⌝ }
+{
+    numbers[at] = numbers[at] + 1;
+}
+
+// A new record at the front of a part, whose last record's room it takes.
+fn insert(part: &mut [u32], key: u32, cell: usize)
+    requires { ⌜ (width ≤ length (now part)) × Cell cell ⌝ }
+    ensures { λ _. ⌜ now (part .exit) ≡ raised cell (blank key) ++ take (length (now (part .entry)) - width) (now (part .entry)) ⌝ }
+{
+    shift_up(part, WIDTH);
+    write_new(&mut part[..WIDTH], key, cell);
+}
+
+// A record of a key with one count, at a cell, over the whole part.
+fn write_new(part: &mut [u32], key: u32, cell: usize)
+    requires { ⌜ (length (now part) ≡ width) × Cell cell ⌝ }
+    ensures { λ _. ⌜ now (part .exit) ≡ raised cell (blank key) ⌝ }
+{
+    let mut i: usize = 0;
+    while i < WIDTH {
+        part[i] = 0;
+        i = i + 1;
+    }
+    part[0] = key;
+    part[cell] = 1;
+}
+
+// Moves all but the last `gap` numbers up by `gap`: the first `gap` stay as they were.
+fn shift_up(part: &mut [u32], gap: usize)
+    requires { ⌜ gap ≤ length (now part) ⌝ }
+    ensures { λ _. ⌜ now (part .exit) ≡ take gap (now (part .entry)) ++ take (length (now (part .entry)) - gap) (now (part .entry)) ⌝ }
+{
+    let mut i = part.len();
+    while gap < i {
+        i = i - 1;
+        part[i] = part[i - gap];
+    }
+}
+
+// Moves all but the first `gap` numbers down by `gap`: the last `gap` stay as they were.
+fn shift_down(part: &mut [u32], gap: usize)
+    requires { ⌜ gap ≤ length (now part) ⌝ }
+    ensures { λ _. ⌜ now (part .exit) ≡ drop gap (now (part .entry)) ++ drop (length (now (part .entry)) - gap) (now (part .entry)) ⌝ }
+{
+    let mut i: usize = 0;
+    let end = part.len() - gap;
+    while i < end {
+        part[i] = part[i + gap];
+        i = i + 1;
+    }
+}

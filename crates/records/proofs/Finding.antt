@@ -1,0 +1,140 @@
+-- What is held and what stands under a key, by the places of records whose keys rise. Assumes nothing.
+use mathlib.Core.Path.{_≡_, refl, sym, ap, subst, _∙_}
+use mathlib.Core.Bool.{Bool, true, false, cond, _||_}
+use mathlib.Core.List.{List, [], _∷_}
+use Prim.Native.Nat.{ℕ, zero, suc, _*_, _≤_, _<_, suc-le-suc}
+use native.Mathlib.Nat.{not-suc-le-zero, le-of-suc-le-suc}
+use native.Mathlib.Omega.{arith}
+use borrow.Author.Tests.{ltb-true, ltb-false, eqb-true, eqb-false, eq-eqb, ne-eqb}
+use lib.Dec.{T, ltb, eqb, eqb→eq}
+use lib.ListN.{length, getD, List·getD-map, length-map}
+use Rattle.numbers.proofs.Tests.{is-true, choose, or-left, or-right, or-rest, or-none}
+use Rattle.numbers.proofs.Orders.{eq→eqb}
+use Rattle.records.specs.Records.{width, records, key, keys, rises, blank, lookup}
+use Rattle.records.specs.Held.{rank, held, Rising}
+use Rattle.records.proofs.Parts.{length-parts}
+use Rattle.records.proofs.Rising.{rises-first, rises-rest, rises-bound, key-at}
+
+-- ---- what no record has
+
+-- no record has a key below the bound
+pub held-none : (k lo : ℕ) (rs : List (List ℕ)) → T (rises lo (keys rs)) → k < lo → held k rs ≡ false
+unfolding held
+held-none k lo [] up h = refl
+held-none k lo (r ∷ rs) up h =
+    let first = rises-first lo (key r) (keys rs) up in
+    rw (ne-eqb (key r) k (λ e. omega arith)) (held-none k (suc (key r)) rs (rises-rest lo (key r) (keys rs) up) (omega arith))
+
+-- under a key that no record has stands a blank one
+pub lookup-absent : (k : ℕ) (rs : List (List ℕ)) → held k rs ≡ false → lookup k rs ≡ blank k
+unfolding held lookup
+lookup-absent k [] h = refl
+lookup-absent k (r ∷ rs) h = go (eqb (key r) k) h (lookup-absent k rs)
+  where
+    go : (t : Bool) → (t || held k rs) ≡ false → (held k rs ≡ false → lookup k rs ≡ blank k) → cond t r (lookup k rs) ≡ blank k
+    go true e ih = absurd (subst T e tt)
+    go false e ih = ih e
+
+-- what holds of all records, and of a blank one, holds of what stands under a key
+pub lookup-each : (P : List ℕ → Type 0) (k : ℕ) (rs : List (List ℕ)) → P (blank k) → ((p : ℕ) → p < length rs → P (getD rs p [])) → P (lookup k rs)
+unfolding lookup
+lookup-each P k [] b h = b
+lookup-each P k (r ∷ rs) b h =
+    choose P (eqb (key r) k) r (lookup k rs) (h 0 (omega arith)) (lookup-each P k rs b (λ p l. h (suc p) (omega arith)))
+
+-- ---- the places of what is held
+
+-- a place at which a record has the key
+pub record Place (k : ℕ) (rs : List (List ℕ)) : Type 0 where
+  pub place : ℕ
+  pub inside : place < length rs
+  pub has : key (getD rs place []) ≡ k
+
+pub held-place : (k : ℕ) (rs : List (List ℕ)) → T (held k rs) → Place k rs
+unfolding held
+held-place k [] h = absurd h
+held-place k (r ∷ rs) h = go (eqb (key r) k) refl h (held-place k rs)
+  where
+    go : (t : Bool) → eqb (key r) k ≡ t → T (t || held k rs) → (T (held k rs) → Place k rs) → Place k (r ∷ rs)
+    go true e u f = record { place = 0; inside = omega arith; has = eqb→eq (key r) k (subst T (sym e) tt) }
+    go false e u f =
+        let there = f u in
+        record { place = suc (there .place); inside = suc-le-suc (there .inside); has = there .has }
+
+pub place-held : (k p : ℕ) (rs : List (List ℕ)) → p < length rs → key (getD rs p []) ≡ k → T (held k rs)
+unfolding held
+place-held k p [] h e = absurd (not-suc-le-zero h)
+place-held k zero (r ∷ rs) h e = or-left (eqb (key r) k) (held k rs) (eq→eqb (key r) k e)
+place-held k (suc p) (r ∷ rs) h e = or-right (eqb (key r) k) (held k rs) (place-held k p rs (le-of-suc-le-suc h) e)
+
+-- under the key of a place stands the record there
+pub lookup-place : (lo p : ℕ) (rs : List (List ℕ)) → T (rises lo (keys rs)) → p < length rs → lookup (key (getD rs p [])) rs ≡ getD rs p []
+unfolding lookup
+lookup-place lo p [] up h = absurd (not-suc-le-zero h)
+lookup-place lo zero (r ∷ rs) up h = rw (eq-eqb (key r) (key r) refl)
+lookup-place lo (suc p) (r ∷ rs) up h =
+    let rest = rises-rest lo (key r) (keys rs) up in
+    let in-keys : p < length (keys rs) = rw (length-map rs key) (le-of-suc-le-suc h) in
+    let there : getD (keys rs) p 0 ≡ key (getD rs p []) = List·getD-map key rs p [] in
+    let later = rises-bound (suc (key r)) (keys rs) p rest in-keys in
+    rw (ne-eqb (key r) (key (getD rs p [])) (λ e. omega arith)) (lookup-place (suc (key r)) p rs rest (le-of-suc-le-suc h))
+
+-- ---- what stands at the rank of a key
+
+pub rank-zero : (k x : ℕ) (xs : List ℕ) → rank k (x ∷ xs) ≡ 0 → k ≤ x
+unfolding rank
+rank-zero k x xs e = go (ltb x k) refl e
+  where
+    go : (t : Bool) → ltb x k ≡ t → cond t (suc (rank k xs)) zero ≡ 0 → k ≤ x
+    go true f q = absurd (omega arith)
+    go false f q = ltb-false x k f
+
+pub rank-suc : (k x : ℕ) (xs : List ℕ) (p : ℕ) → rank k (x ∷ xs) ≡ suc p → (x < k) × (rank k xs ≡ p)
+unfolding rank
+rank-suc k x xs p e = go (ltb x k) refl e
+  where
+    go : (t : Bool) → ltb x k ≡ t → cond t (suc (rank k xs)) zero ≡ suc p → (x < k) × (rank k xs ≡ p)
+    go true f q = (ltb-true x k f, omega arith)
+    go false f q = absurd (omega arith)
+
+-- the place at the rank of a key has another key, or there is no such place
+abbrev pub Missed : ℕ → ℕ → List (List ℕ) → Type 0
+Missed k p rs = p < length rs → key (getD rs p []) ≡ k → ⊥
+
+pub held-missed : (k lo : ℕ) (rs : List (List ℕ)) (p : ℕ) → T (rises lo (keys rs)) → rank k (keys rs) ≡ p → Missed k p rs → held k rs ≡ false
+unfolding held
+held-missed k lo [] p up e m = refl
+held-missed k lo (r ∷ rs) zero up e m =
+    let other = m (omega arith) in
+    let least = rank-zero k (key r) (keys rs) e in
+    rw (ne-eqb (key r) k other) (held-none k (suc (key r)) rs (rises-rest lo (key r) (keys rs) up) (omega arith))
+held-missed k lo (r ∷ rs) (suc p) up e m =
+    let at = rank-suc k (key r) (keys rs) p e in
+    rw (ne-eqb (key r) k (λ q. omega arith)) (held-missed k (suc (key r)) rs p (rises-rest lo (key r) (keys rs) up) (at .1) (λ h. m (suc-le-suc h)))
+
+-- ---- the same of the first n records, as the code tests it
+
+module _ (k n p : ℕ) (l : List ℕ) where
+  in-records : p < n → p < length (records n l)
+  in-records h = rw (length-parts width n l) h
+
+  pub held-found : p < n → getD l (width * p) 0 ≡ k → held k (records n l) ≡ true
+  held-found h e = is-true (held k (records n l)) (place-held k p (records n l) (in-records h) (key-at n p l h ∙ e))
+
+  pub lookup-found : Rising (records n l) → p < n → getD l (width * p) 0 ≡ k → lookup k (records n l) ≡ getD (records n l) p []
+  lookup-found up h e =
+      ap (λ (x : ℕ). lookup x (records n l)) (sym (key-at n p l h ∙ e)) ∙ lookup-place 0 p (records n l) up (in-records h)
+
+  pub missed : (p < n → getD l (width * p) 0 ≡ k → ⊥) → Missed k p (records n l)
+  missed m h e = let inside : p < n = rw (length-parts width n l) at h in m inside (sym (key-at n p l inside) ∙ e)
+
+  pub held-lost : Rising (records n l) → p ≡ rank k (keys (records n l)) → (p < n → getD l (width * p) 0 ≡ k → ⊥) → held k (records n l) ≡ false
+  held-lost up at m = held-missed k 0 (records n l) p up (sym at) (missed m)
+
+  -- the test of the key at its rank
+  pub held-tested : Rising (records n l) → p ≡ rank k (keys (records n l)) → p < n → eqb (getD l (width * p) 0) k ≡ held k (records n l)
+  held-tested up at h = go (eqb (getD l (width * p) 0) k) refl
+    where
+      go : (t : Bool) → eqb (getD l (width * p) 0) k ≡ t → t ≡ held k (records n l)
+      go true e = sym (held-found h (eqb-true (getD l (width * p) 0) k e))
+      go false e = sym (held-lost up at (λ _. eqb-false (getD l (width * p) 0) k e))

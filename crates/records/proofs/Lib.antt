@@ -1,0 +1,14 @@
+pub mod Parts
+pub mod Lent
+pub mod Rising
+pub mod Finding
+pub mod Cells
+pub mod Bumping
+pub mod Counting
+pub mod Keeping
+pub mod Desks
+pub mod Shifting
+pub mod Inserting
+pub mod Removing
+pub mod Feeding
+pub mod Growing

@@ -1,0 +1,46 @@
+-- What a fed symbol does to the records: every context that it follows gets one more count. Assumes nothing.
+use mathlib.Core.Bool.{not}
+use mathlib.Core.List.{List}
+use Prim.Native.Nat.{ℕ, zero, suc, _+_, _*_, _≤_, _<_}
+use lib.ListN.{length, take}
+use lib.Dec.{T}
+use Rattle.numbers.specs.Limits.{mostSymbols, deepest, longest, desks}
+use Rattle.numbers.specs.Sum.{one, sum}
+use Rattle.contexts.specs.Context.{isContext}
+use Rattle.contexts.specs.Keys.{keyOf}
+use Rattle.contexts.specs.Sitting.{Sample, first, second}
+use Rattle.records.specs.Records.{width, records}
+use Rattle.records.specs.Held.{held, countAt, Standing}
+use Rattle.records.specs.Bumped.{bumped}
+
+-- sample 0 is the first, sample 1 the second
+abbrev pub sampleOf : ℕ → Sample
+sampleOf zero = first
+sampleOf (suc i) = second
+
+-- one more of symbol a in sample i for the first j of the contexts take 0 recent, take 1 recent, .. of desk d
+unfoldable pub fedTo : ℕ → ℕ → Sample → ℕ → List ℕ → List (List ℕ) → List (List ℕ)
+fedTo zero d i a recent rs = rs
+fedTo (suc j) d i a recent rs = bumped (keyOf d (take j recent)) i a (fedTo j d i a recent rs)
+
+-- symbol a is fed to sample i of desk d, after the symbols `recent`, most recent first: for all of these contexts, up to `recent` itself
+abbrev pub fed : ℕ → Sample → ℕ → List ℕ → List (List ℕ) → List (List ℕ)
+fed d i a recent = fedTo (suc (length recent)) d i a recent
+
+-- how many of these contexts no record has yet
+abbrev pub missing : ℕ → List ℕ → List (List ℕ) → ℕ
+missing d recent rs = sum (suc (length recent)) (λ j. one (not (held (keyOf d (take j recent)) rs)))
+
+-- what counting the missing contexts asks: n records in rising order, a desk, and recent symbols within the limits
+pub record Asked (d : ℕ) (recent : List ℕ) (n : ℕ) (l : List ℕ) : Type 0 where
+  pub standing : Standing n l
+  pub desk : d < desks
+  pub context : T (isContext mostSymbols deepest recent)
+
+-- what a feed asks besides: a sample, a symbol, room for the missing contexts, and no count above a sample's longest
+pub record Feedable (d i a : ℕ) (recent : List ℕ) (n : ℕ) (l : List ℕ) : Type 0 where
+  pub asked : Asked d recent n l
+  pub sample : i < 2
+  pub symbol : a < mostSymbols
+  pub room : width * (n + missing d recent (records n l)) ≤ length l
+  pub small : (k : ℕ) → countAt k (sampleOf i) a (records n l) ≤ longest
