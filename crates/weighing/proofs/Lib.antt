@@ -1,2 +1,4 @@
 pub mod Blocks
 pub mod Cursor
+pub mod Standing
+pub mod Flat
