@@ -1,4 +1,18 @@
-// The weighing of a desk's records.
+// The weighing of a desk's records: what its trees lose at least, how many rows the report has, and the decisions, kept beside the records.
+use estimate::ByKind;
+ghost use mathlib.Core.Path.{_≡_};
+ghost use mathlib.Core.Bool.{cond, not};
+ghost use Prim.Native.Nat.{ℕ, _+_, _*_, _≤_, _<_, _^_, min};
+ghost use lib.ListN.{length};
+ghost use lib.Dec.{leb};
+ghost use Rattle.numbers.specs.Sum.{one};
+ghost use Rattle.contexts.specs.Keys.{contextOf};
+ghost use Rattle.records.specs.Records.{width, records};
+ghost use Rattle.records.specs.Held.{held};
+ghost use Rattle.weighing.specs.Trees.{choice};
+ghost use Rattle.weighing.specs.Visit.{Stands, Ready, Visited, mostLoss, Small, LeafOf, SplitOf, SumOf, Fits, ChildOf};
+
+const WIDTH: usize = 24;
 
 // An open desk: its number, A, D and the samples' lengths.
 pub struct Desk {
@@ -7,4 +21,166 @@ pub struct Desk {
     pub depth: u32,
     pub n: u32,
     pub m: u32,
+}
+
+// A context: its key, how many keys its block has, and how many symbols are left below it.
+pub struct Context {
+    pub key: u32,
+    pub span: u32,
+    pub left: u32,
+}
+
+// What each tree at a context loses at least, how many members it has, and the place of the first record past the context's block.
+// Under `shared` stand both trees together.
+pub struct Weighed {
+    pub least: ByKind,
+    pub rows: ByKind,
+    pub next: usize,
+}
+
+// Whether the record at the place of a key has it.
+fn held_at(numbers: &[u32], n: usize, at: usize, key: u32) -> bool
+    requires { ⌜ Stands n (now numbers) at key ⌝ }
+    ensures { λ r. ⌜ r ≡ held key (records n (now (numbers .entry))) ⌝ }
+{
+    if n <= at {
+        return false;
+    }
+    numbers[WIDTH * at] == key
+}
+
+// The context is a leaf with these losses.
+fn as_leaf(own: ByKind, next: usize) -> Weighed
+    requires { ⌜ Small own ⌝ }
+    ensures { λ r. ⌜ LeafOf own next r ⌝ }
+{
+    let apart = own.first + own.second;
+    let rows = ByKind {
+        shared: leaf_rows(own.shared, apart),
+        first: 1,
+        second: 1,
+    };
+    let least = ByKind {
+        shared: smaller(own.shared, apart),
+        first: own.first,
+        second: own.second,
+    };
+    Weighed { least, rows, next }
+}
+
+// The context is a leaf with these losses, or a split over children that lose and hold this together.
+fn as_split(own: ByKind, kids: Weighed) -> Weighed
+    requires { ⌜ Small own × (kids .rows .first + kids .rows .second + 2 < 2 ^ 64) ⌝ }
+    ensures { λ r. ⌜ SplitOf own kids r ⌝ }
+{
+    let below = kids.least;
+    let held = kids.rows;
+    let first = smaller(own.first, below.first);
+    let second = smaller(own.second, below.second);
+    let first_rows = own_rows(own.first, below.first, held.first);
+    let second_rows = own_rows(own.second, below.second, held.second);
+    let apart = first + second;
+    let rows = ByKind {
+        shared: joint_rows(own.shared, apart, below.shared, first_rows + second_rows, held.shared),
+        first: first_rows,
+        second: second_rows,
+    };
+    let least = ByKind {
+        shared: smaller(own.shared, smaller(apart, below.shared)),
+        first,
+        second,
+    };
+    Weighed {
+        least,
+        rows,
+        next: kids.next,
+    }
+}
+
+// One child more.
+fn and_child(kids: Weighed, w: Weighed) -> Weighed
+    requires { ⌜ Fits (kids .least) (w .least) × Fits (kids .rows) (w .rows) ⌝ }
+    ensures { λ r. ⌜ ChildOf kids w r ⌝ }
+{
+    Weighed {
+        least: plus(kids.least, w.least),
+        rows: plus(kids.rows, w.rows),
+        next: w.next,
+    }
+}
+
+fn plus(x: ByKind, y: ByKind) -> ByKind
+    requires { ⌜ Fits x y ⌝ }
+    ensures { λ r. ⌜ SumOf x y r ⌝ }
+{
+    ByKind {
+        shared: x.shared + y.shared,
+        first: x.first + y.first,
+        second: x.second + y.second,
+    }
+}
+
+// The members of a shared leaf, or of two separate leaves.
+fn leaf_rows(leaf: u64, apart: u64) -> u64
+    ensures { λ r. ⌜ r ≡ cond (leb leaf apart) 1 2 ⌝ }
+{
+    if leaf <= apart { 1 } else { 2 }
+}
+
+// The members of an own tree: itself, or those of its children.
+fn own_rows(leaf: u64, split: u64, below: u64) -> u64
+    ensures { λ r. ⌜ (r ≡ cond (leb leaf split) 1 below) × (r ≤ 1 + below) ⌝ }
+{
+    if leaf <= split { 1 } else { below }
+}
+
+// The members of both trees: of a shared leaf, of two separate trees, or of a split of both.
+fn joint_rows(leaf: u64, apart: u64, split: u64, both: u64, below: u64) -> u64
+    ensures { λ r. ⌜ r ≡ cond (leb leaf (min apart split)) 1 (cond (leb apart split) both below) ⌝ }
+{
+    if leaf <= smaller(apart, split) {
+        return 1;
+    }
+    if apart <= split { both } else { below }
+}
+
+// The decision at a leaf with these losses.
+fn leaf_mark(own: ByKind) -> u8
+    requires { ⌜ Small own ⌝ }
+    ensures { λ r. ⌜ r ≡ one (not (leb (own .shared) (own .first + own .second))) ⌝ }
+{
+    more(own.shared, own.first + own.second)
+}
+
+// The decision at a context over children that lose this together.
+fn split_mark(own: ByKind, below: ByKind) -> u8
+    requires { ⌜ Small own ⌝ }
+    ensures { λ r. ⌜ r ≡ choice (own .shared) (min (own .first) (below .first) + min (own .second) (below .second)) (below .shared) + 3 * one (not (leb (own .first) (below .first))) + 6 * one (not (leb (own .second) (below .second))) ⌝ }
+{
+    let apart = smaller(own.first, below.first) + smaller(own.second, below.second);
+    choice_of(own.shared, apart, below.shared)
+        + 3 * more(own.first, below.first)
+        + 6 * more(own.second, below.second)
+}
+
+// Of a shared leaf, two separate trees and a split of both, the first that loses least.
+fn choice_of(leaf: u64, apart: u64, split: u64) -> u8
+    ensures { λ r. ⌜ (r ≡ choice leaf apart split) × (r ≤ 2) ⌝ }
+{
+    if leaf <= smaller(apart, split) {
+        return 0;
+    }
+    if apart <= split { 1 } else { 2 }
+}
+
+fn more(x: u64, y: u64) -> u8
+    ensures { λ r. ⌜ (r ≡ one (not (leb x y))) × (r ≤ 1) ⌝ }
+{
+    if x <= y { 0 } else { 1 }
+}
+
+fn smaller(x: u64, y: u64) -> u64
+    ensures { λ r. ⌜ (r ≡ min x y) × (r ≤ x) ⌝ }
+{
+    if x <= y { x } else { y }
 }
