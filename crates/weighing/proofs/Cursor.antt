@@ -69,7 +69,7 @@ desk-of : (d k : ℕ) → d * deskSpan ≤ k → k < d * deskSpan + deskSpan →
 desk-of d k lo hi = omega arith
 
 module _ (k : Desk) (n : ℕ) (l : List ℕ) (w : Weighable k n l) where
-  within : (s : List ℕ) → T (isContext (k .symbols) (k .depth) s) → Within s
+  pub within : (s : List ℕ) → T (isContext (k .symbols) (k .depth) s) → Within s
   within s c = context-more (k .symbols) mostSymbols (k .depth) deepest s (w .few) (w .shallow) c
 
   -- what no context of the desk has, no record has
@@ -80,7 +80,7 @@ module _ (k : Desk) (n : ℕ) (l : List ℕ) (w : Weighable k n l) where
       let c = w .contexts m held-m (desk-of (k .number) m (omega arith) (omega arith)) in
       none (c .0) (c .1) (subst (λ (z : ℕ). T (held z (records n l))) (c .2) held-m) (omega (arith, c .2)) (omega (arith, c .2)))
 
-  end-within : (s : List ℕ) → Within s → endOf (k .number) s ≤ k .number * deskSpan + deskSpan
+  pub end-within : (s : List ℕ) → Within s → endOf (k .number) s ≤ k .number * deskSpan + deskSpan
   end-within s c =
       let long = context-length mostSymbols deepest s c in
       omega (arith, end-is (k .number) (deepest - length s) s (omega arith), digits-room deepest (deepest - length s) s (omega arith) c)
@@ -104,6 +104,17 @@ module _ (k : Desk) (n : ℕ) (l : List ℕ) (w : Weighable k n l) where
         in-block t ct h p q =
             let g = begins-split s t (key-block (k .number) s t (within s c) (within t ct) p q) in
             subst T off (held-shorter s (g .0) (subst (λ (z : List ℕ). T (isContext (k .symbols) (k .depth) z)) (g .1) ct) (subst (λ (z : List ℕ). T (held (keyOf (k .number) z) (records n l))) (g .1) h))
+
+    -- a context with no symbol left has no other in its block
+    pub past-deepest : length s ≡ k .depth → rank (keyOf (k .number) s + 1) (keys (records n l)) ≡ rank (endOf (k .number) s) (keys (records n l))
+    past-deepest full = none-between (keyOf (k .number) s + 1) (endOf (k .number) s) (omega arith) (end-within s (within s c)) in-block (omega (arith, block-key (k .number) s s (within s c) (within s c) (begins-self s)))
+      where
+        in-block : (t : List ℕ) → T (isContext (k .symbols) (k .depth) t) → T (held (keyOf (k .number) t) (records n l)) → keyOf (k .number) s + 1 ≤ keyOf (k .number) t → keyOf (k .number) t < endOf (k .number) s → ⊥
+        in-block t ct _ p q = let g = begins-split s t (key-block (k .number) s t (within s c) (within t ct) (omega arith) q) in go (g .0) (g .1)
+          where
+            go : (u : List ℕ) → t ≡ s ++ u → ⊥
+            go [] e = let f = ap (keyOf (k .number)) (e ∙ append-nil s) in omega arith
+            go (a ∷ u) e = omega (arith, context-split (k .symbols) (k .depth) s a u (subst (λ (z : List ℕ). T (isContext (k .symbols) (k .depth) z)) e ct) .2)
 
     module _ (j : ℕ) (h : length s + suc j ≡ deepest) (deeper : length s < k .depth) where
       pub turn-at : (a : ℕ) → a < k .symbols → rank (turnKey (k .number) s a) (keys (records n l)) ≡ rank (keyOf (k .number) (older s a)) (keys (records n l))

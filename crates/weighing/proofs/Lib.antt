@@ -5,3 +5,4 @@ pub mod Flat
 pub mod Counts
 pub mod Choosing
 pub mod Visiting
+pub mod Turning
