@@ -1,7 +1,7 @@
 -- The turns of a visit over the children of a held context, one symbol after the other. Assumes nothing.
 use Prim.Native.Nat.{ℕ, zero, suc, _+_, _-_, _*_, _/_, _^_, _≤_, _<_, min}
 use mathlib.Core.Path.{_≡_, refl, sym, ap, ap₂, subst, _∙_}
-use mathlib.Core.Bool.{Bool, not}
+use mathlib.Core.Bool.{true, not}
 use mathlib.Core.List.{List, [], _∷_}
 use native.Mathlib.Omega.{arith}
 use native.Mathlib.Numerals.{add-one}
@@ -159,7 +159,7 @@ module _ (k : Desk) (costs : ByKind) (n : ℕ) (l : List ℕ) (s : List ℕ) (c 
               (rank-mono (keyOf (k .number) (older s a)) (endOf (k .number) (older s a)) (keys (records n l)) (omega (arith, block-key (k .number) (older s a) (older s a) o o (begins-self (older s a)))))
 
   -- ---- the first turn, and after the last
-  module _ (on : T (held (keyOf (k .number) s) (records n l))) (o : ByKind) (is : (i : Kind) → at o i ≡ f i s) (old : List ℕ) where
+  module _ (on : held (c .key) (records n l) ≡ true) (old : List ℕ) where
     pub turns-begin : (kids : Weighed) → ((i : Kind) → at (kids .least) i ≡ 0) → ((i : Kind) → at (kids .rows) i ≡ 0) → kids .next ≡ p + 1
         → Turn k n l s (c .left - 1) p (c .span / 8) 0 (c .key + 1) old old kids
     unfolding sum
@@ -169,7 +169,7 @@ module _ (k : Desk) (costs : ByKind) (n : ℕ) (l : List ℕ) (s : List ℕ) (c 
       least = z;
       rows = y;
       onward = omega arith;
-      place = e ∙ past-own k costs n l s c p q on o is;
+      place = e ∙ past-own k costs n l s c p q on;
       marked = record { is = λ x lo hi. absurd (omega arith) };
       apart = apart-none (p + 1) (kids .next) old;
     }
@@ -197,11 +197,11 @@ module _ (k : Desk) (costs : ByKind) (n : ℕ) (l : List ℕ) (s : List ℕ) (c 
       last zero e = absurd (omega (arith, all, q .weighable .some))
       last (suc b) e = turns-past k n l (q .weighable) s (q .context) (after s) room deeper b (omega (arith, all))
 
-      pub turns-end : (v : ℕ)
+      pub turns-end : (o : ByKind) → ((i : Kind) → at o i ≡ f i s) → (v : ℕ)
           → v ≡ choice (o .shared) (min (o .first) (kids .least .first) + min (o .second) (kids .least .second)) (kids .least .shared)
           + 3 * one (not (leb (o .first) (kids .least .first))) + 6 * one (not (leb (o .second) (kids .least .second)))
           → n ≤ length cur → (r : Weighed) → SplitOf o kids r → Visited k n l s (c .left) p old (set cur p v) r
-      turns-end v e long r g = subst (λ (d : ℕ). Visited k n l s d p old (set cur p v) r) back (record {
+      turns-end o is v e long r g = subst (λ (d : ℕ). Visited k n l s d p old (set cur p v) r) back (record {
         least = choosing.split-least (k .symbols) f s o is (c .left - 1) kids less some r g;
         rows = choosing.split-members (k .symbols) f s o is (c .left - 1) kids less some r g;
         past = g .onward ∙ t .place ∙ last a refl;
@@ -210,7 +210,7 @@ module _ (k : Desk) (costs : ByKind) (n : ℕ) (l : List ℕ) (s : List ℕ) (c 
       })
         where
           here : (p < n) × (getD l (width * p) 0 ≡ keyOf (k .number) s)
-          here = there k costs n l s c p q on o is
+          here = there k costs n l s c p q on
 
           mark : v ≡ markOf (k .symbols) (k .depth) f (getD l (width * p) 0)
-          mark = mark-there k costs n l s c p q on o is (suc (c .left - 1)) v (omega (arith, back, q .left-is)) (e ∙ choosing.split-mark (k .symbols) f s o is (c .left - 1) kids less some)
+          mark = mark-there k costs n l s c p q on (suc (c .left - 1)) v (omega (arith, back, q .left-is)) (e ∙ choosing.split-mark (k .symbols) f s o is (c .left - 1) kids less some)

@@ -9,7 +9,7 @@ use native.Mathlib.Nat.{mul-le-mul-right, pow-suc, eq-or-lt-of-le}
 use lib.ListN.{length, getD, set, length-append}
 use lib.Seq.{getD-set-same, getD-set-other}
 use lib.Dec.{T, eqb, leb, eqb→eq}
-use Rattle.numbers.specs.Limits.{mostSymbols, deepest}
+use Rattle.numbers.specs.Limits.{mostCounted}
 use Rattle.numbers.specs.Sum.{one, sum}
 use Rattle.numbers.proofs.Tests.{T?, of-true}
 use Rattle.numbers.proofs.Orders.{Leb, le, gt, lebView, Order, less, same, more, order, eq→eqb}
@@ -17,25 +17,27 @@ use Rattle.numbers.proofs.Sums.{sum-next, sum-mono, sum-same}
 use Rattle.contexts.specs.Context.{isContext}
 use Rattle.contexts.specs.Keys.{keyOf, deskSpan, contextOf}
 use Rattle.contexts.proofs.KeyOrder.{contextOf-key, contextKey-lt}
+use Rattle.contexts.specs.Sitting.{first, second, table}
 use Rattle.estimate.specs.Trees.{Kind, shared, own, from}
 use Rattle.estimate.specs.Recursion.{Losses, losses}
+use Rattle.estimate.specs.Table.{rowIn, sumOf, LossesOf}
 use Rattle.estimate.specs.declared.ByKind.{ByKind}
 use Rattle.estimate.proofs.Tables.{at}
 use Rattle.estimate.proofs.Unseen.{Flat}
 use Rattle.rows.specs.Walk.{older}
 use Rattle.records.specs.Records.{width, records, keys}
-use Rattle.records.specs.Held.{rank, held, Rising}
+use Rattle.records.specs.Held.{rank, held, recordAt, tableOf, Rising}
 use Rattle.records.proofs.Finding.{held-lost}
 use Rattle.weighing.specs.declared.Desk.{Desk}
 use Rattle.weighing.specs.declared.Context.{Context}
 use Rattle.weighing.specs.declared.Weighed.{Weighed}
 use Rattle.weighing.specs.Sitting.{sittingIn, Weighable}
 use Rattle.weighing.specs.Trees.{leastAt, membersAt, markAt, markOf}
-use Rattle.weighing.specs.Visit.{spanOf, endOf, Ready, Marked, Apart, Visited, LeafOf, SplitOf, SumOf, Fits, ChildOf}
+use Rattle.weighing.specs.Visit.{spanOf, endOf, Ready, Marked, Apart, Visited, Countable, Small, LeafOf}
 use Rattle.weighing.proofs.Cursor.{turnKey, rank-own, within, end-within, past-absent, past-deepest, turn-at, turns-past}
 use Rattle.weighing.proofs.Blocks.{context-older, key-older}
 use Rattle.weighing.proofs.Flat as flat
-use Rattle.weighing.proofs.Counts.{losses-most, absent-flat, absent-losses}
+use Rattle.weighing.proofs.Counts.{table-here, table-small, costs-small, losses-here, small-here, absent-flat, absent-losses}
 use Rattle.weighing.proofs.Choosing as choosing
 
 -- a key that is held stands at its place
@@ -97,8 +99,8 @@ module _ (k : Desk) (costs : ByKind) (n : ℕ) (l : List ℕ) (s : List ℕ) (c 
   mark-here d h = let e : k .depth - length s ≡ d = omega arith in rw (contextOf-key (k .number) s (within k n l (q .weighable) s (q .context)), e)
 
   -- ---- a context that is not held
-  pub answer-absent : held (keyOf (k .number) s) (records n l) ≡ false → (old : List ℕ) (r : Weighed) → LeafOf costs p r → Visited k n l s (c .left) p old old r
-  answer-absent off old r g = record {
+  pub answer-absent : held (c .key) (records n l) ≡ false → (old : List ℕ) (r : Weighed) → LeafOf costs p r → Visited k n l s (c .left) p old old r
+  answer-absent absent old r g = record {
     least = choosing.absent-least (k .symbols) f s costs bare p r g (q .weighable .some) unseen (c .left);
     rows = choosing.absent-members (k .symbols) f s costs bare p r g (q .weighable .some) unseen (c .left);
     past = g .onward ∙ q .place ∙ past-absent k n l (q .weighable) s (q .context) off;
@@ -106,16 +108,47 @@ module _ (k : Desk) (costs : ByKind) (n : ℕ) (l : List ℕ) (s : List ℕ) (c 
     apart = apart-none p (r .next) old;
   }
     where
+      off : held (keyOf (k .number) s) (records n l) ≡ false
+      off = subst (λ (z : ℕ). held z (records n l) ≡ false) (q .key-is) absent
+
       bare : (t : Kind) → at costs t ≡ f t s
       bare = absent-losses k n l (q .weighable) costs (q .priced) s off
 
       unseen : (t : Kind) → Flat (from s f t)
       unseen = absent-flat k n l (q .weighable) costs (q .priced) s off
 
-  -- ---- a context that is held, with these losses
-  module _ (on : T (held (keyOf (k .number) s) (records n l))) (o : ByKind) (is : (t : Kind) → at o t ≡ f t s) where
+  pub bare-small : Small costs
+  bare-small =
+      let small = costs-small k n l (q .weighable) costs (q .priced) in
+      record { first = omega (arith, small (own first)); second = omega (arith, small (own second)) }
+
+  -- ---- a context that is held
+  module _ (held-here : held (c .key) (records n l) ≡ true) where
+    on : T (held (keyOf (k .number) s) (records n l))
+    on = of-true (held (keyOf (k .number) s) (records n l)) (subst (λ (z : ℕ). held z (records n l) ≡ true) (q .key-is) held-here)
+
     pub there : (p < n) × (getD l (width * p) 0 ≡ keyOf (k .number) s)
     there = held-there (keyOf (k .number) s) n p l (q .weighable .standing .rising) (q .place) on
+
+    table-is : tableOf (recordAt p l) ≡ table (sittingIn k (records n l)) s
+    table-is = table-here k n l (q .weighable) s (q .context) p (there .0) (there .1)
+
+    pub countable : Countable l p costs
+    countable =
+        let small = costs-small k n l (q .weighable) costs (q .priced) in
+        record {
+          fits = omega (arith, there .0, q .weighable .standing .fits);
+          counted = subst (λ (z : List (List ℕ)). sumOf (rowIn z first) + sumOf (rowIn z second) ≤ mostCounted) (sym table-is) (table-small k n l (q .weighable) s);
+          shared-cost = small shared;
+          first-cost = small (own first);
+          second-cost = small (own second);
+        }
+
+    pub own-losses : (o : ByKind) → LossesOf (tableOf (recordAt p l)) costs o → (t : Kind) → at o t ≡ f t s
+    own-losses o g = losses-here k n l (q .weighable) costs (q .priced) s o (subst (λ (z : List (List ℕ)). LossesOf z costs o) table-is g)
+
+    pub own-small : (o : ByKind) → LossesOf (tableOf (recordAt p l)) costs o → Small o
+    own-small o g = small-here k n l (q .weighable) costs (q .priced) s o (own-losses o g)
 
     pub past-own : p + 1 ≡ rank (keyOf (k .number) s + 1) ks
     past-own = ap (λ (z : ℕ). z + 1) (q .place) ∙ sym (rank-own (keyOf (k .number) s) 0 (records n l) (q .weighable .standing .rising) on)
@@ -124,9 +157,9 @@ module _ (k : Desk) (costs : ByKind) (n : ℕ) (l : List ℕ) (s : List ℕ) (c 
     mark-there d v h e = e ∙ sym (mark-here d h) ∙ ap (markOf (k .symbols) (k .depth) f) (sym (there .1))
 
     -- with no symbol left
-    pub answer-leaf : c .left ≡ 0 → (old : List ℕ) → n ≤ length old → (v : ℕ) → v ≡ one (not (leb (o .shared) (o .first + o .second)))
+    pub answer-leaf : (o : ByKind) → ((t : Kind) → at o t ≡ f t s) → c .left ≡ 0 → (old : List ℕ) → n ≤ length old → (v : ℕ) → v ≡ one (not (leb (o .shared) (o .first + o .second)))
         → (r : Weighed) → LeafOf o (p + 1) r → Visited k n l s (c .left) p old (set old p v) r
-    answer-leaf z old long v e r g = subst (λ (d : ℕ). Visited k n l s d p old (set old p v) r) (sym z) (record {
+    answer-leaf o is z old long v e r g = subst (λ (d : ℕ). Visited k n l s d p old (set old p v) r) (sym z) (record {
       least = choosing.leaf-least (k .symbols) f s o is (p + 1) r g;
       rows = choosing.leaf-members (k .symbols) f s o is (p + 1) r g;
       past = g .onward ∙ past-own ∙ past-deepest k n l (q .weighable) s (q .context) (omega (arith, q .left-is));

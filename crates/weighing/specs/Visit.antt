@@ -9,13 +9,14 @@ use Rattle.numbers.specs.Limits.{deepest, mostSymbols, mostCounted, topLog}
 use Rattle.numbers.specs.Sum.{one}
 use Rattle.contexts.specs.Context.{isContext}
 use Rattle.contexts.specs.Keys.{digits, deskSpan, keyOf}
+use Rattle.contexts.specs.Sitting.{first, second}
 use Rattle.estimate.specs.Trees.{Kind}
 use Rattle.estimate.specs.Recursion.{losses}
-use Rattle.estimate.specs.Table.{CostsOf}
+use Rattle.estimate.specs.Table.{rowIn, sumOf, CostsOf}
 use Rattle.estimate.specs.declared.ByKind.{ByKind}
 use Rattle.estimate.proofs.Tables.{at}
 use Rattle.records.specs.Records.{width, records, keys}
-use Rattle.records.specs.Held.{rank, held, Standing}
+use Rattle.records.specs.Held.{rank, held, recordAt, tableOf, Standing}
 use Rattle.weighing.specs.declared.Desk.{Desk}
 use Rattle.weighing.specs.declared.Context.{Context}
 use Rattle.weighing.specs.declared.Weighed.{Weighed}
@@ -36,6 +37,14 @@ endOf d s = d * deskSpan + (digits deepest s * 8 + spanOf s)
 pub record Stands (n : ℕ) (l : List ℕ) (p key : ℕ) : Type 0 where
   pub standing : Standing n l
   pub place : p ≡ rank key (keys (records n l))
+
+-- the counts of the record at a place can be weighed
+pub record Countable (l : List ℕ) (p : ℕ) (costs : ByKind) : Type 0 where
+  pub fits : width * (p + 1) ≤ length l
+  pub counted : sumOf (rowIn (tableOf (recordAt p l)) first) + sumOf (rowIn (tableOf (recordAt p l)) second) ≤ mostCounted
+  pub shared-cost : costs .shared ≤ mostSymbols * topLog
+  pub first-cost : costs .first ≤ mostSymbols * topLog
+  pub second-cost : costs .second ≤ mostSymbols * topLog
 
 -- what a visit to the context s of a desk asks
 pub record Ready (k : Desk) (costs : ByKind) (n : ℕ) (l : List ℕ) (s : List ℕ) (c : Context) (p : ℕ) : Type 0 where
@@ -108,6 +117,12 @@ pub record Fits (x y : ByKind) : Type 0 where
   pub shared : x .shared + y .shared < 2 ^ 64
   pub first : x .first + y .first < 2 ^ 64
   pub second : x .second + y .second < 2 ^ 64
+
+-- no child yet
+pub record NoneOf (next : ℕ) (r : Weighed) : Type 0 where
+  pub least : (t : Kind) → at (r .least) t ≡ 0
+  pub rows : (t : Kind) → at (r .rows) t ≡ 0
+  pub onward : r .next ≡ next
 
 -- .. and where the walk goes on after the second
 pub record ChildOf (kids w r : Weighed) : Type 0 where

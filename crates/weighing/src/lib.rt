@@ -8,9 +8,10 @@ ghost use lib.Dec.{leb};
 ghost use Rattle.numbers.specs.Sum.{one};
 ghost use Rattle.contexts.specs.Keys.{contextOf};
 ghost use Rattle.records.specs.Records.{width, records};
-ghost use Rattle.records.specs.Held.{held};
+ghost use Rattle.estimate.specs.Table.{LossesOf};
+ghost use Rattle.records.specs.Held.{held, recordAt, tableOf};
 ghost use Rattle.weighing.specs.Trees.{choice};
-ghost use Rattle.weighing.specs.Visit.{Stands, Ready, Visited, mostLoss, Small, LeafOf, SplitOf, SumOf, Fits, ChildOf};
+ghost use Rattle.weighing.specs.Visit.{Stands, Countable, Ready, Visited, mostLoss, Small, LeafOf, SplitOf, SumOf, Fits, NoneOf, ChildOf};
 
 const WIDTH: usize = 24;
 
@@ -38,6 +39,40 @@ pub struct Weighed {
     pub next: usize,
 }
 
+// The trees at a context, whose place the walk has come to. A context that is not held is answered without a descent.
+// The decision at each record of its block is kept beside it.
+fn visit(numbers: &[u32], kept: &mut [u8], n: usize, desk: Desk, costs: ByKind, here: Context, at: usize) -> Weighed
+    requires { ⌜ (n ≤ length (now kept)) × Ready desk costs n (now numbers) (contextOf (here .key)) here at ⌝ }
+    ensures { λ r. ⌜ Visited desk n (now (numbers .entry)) (contextOf (here .key)) (here .left) at (now (kept .entry)) (now (kept .exit)) r ⌝ }
+{
+    if !held_at(numbers, n, at, here.key) {
+        return as_leaf(costs, at);
+    }
+    let own = losses_at(numbers, at, costs);
+    if here.left == 0 {
+        kept[at] = leaf_mark(own);
+        return as_leaf(own, at + 1);
+    }
+    let span = here.span / 8;
+    let mut key = here.key + 1;
+    let mut kids = none_yet(at + 1);
+    let mut a: u32 = 0;
+    while a < desk.symbols {
+        let next = kids.next;
+        let child = Context {
+            key,
+            span,
+            left: here.left - 1,
+        };
+        let w = visit(numbers, kept, n, desk, costs, child, next);
+        kids = and_child(kids, w);
+        key += span;
+        a += 1;
+    }
+    kept[at] = split_mark(own, kids.least);
+    as_split(own, kids)
+}
+
 // Whether the record at the place of a key has it.
 fn held_at(numbers: &[u32], n: usize, at: usize, key: u32) -> bool
     requires { ⌜ Stands n (now numbers) at key ⌝ }
@@ -47,6 +82,14 @@ fn held_at(numbers: &[u32], n: usize, at: usize, key: u32) -> bool
         return false;
     }
     numbers[WIDTH * at] == key
+}
+
+// The losses of the context of the record at a place.
+fn losses_at(numbers: &[u32], at: usize, costs: ByKind) -> ByKind
+    requires { ⌜ Countable (now numbers) at costs ⌝ }
+    ensures { λ r. ⌜ LossesOf (tableOf (recordAt at (now (numbers .entry)))) costs r ⌝ }
+{
+    estimate::losses_of(records::counts_at(numbers, at), costs)
 }
 
 // The context is a leaf with these losses.
@@ -94,6 +137,22 @@ fn as_split(own: ByKind, kids: Weighed) -> Weighed
         least,
         rows,
         next: kids.next,
+    }
+}
+
+// No child yet.
+fn none_yet(next: usize) -> Weighed
+    ensures { λ r. ⌜ NoneOf next r ⌝ }
+{
+    let none = ByKind {
+        shared: 0,
+        first: 0,
+        second: 0,
+    };
+    Weighed {
+        least: none,
+        rows: none,
+        next,
     }
 }
 
