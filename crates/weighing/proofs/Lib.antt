@@ -6,3 +6,4 @@ pub mod Counts
 pub mod Choosing
 pub mod Visiting
 pub mod Turning
+pub mod Whole

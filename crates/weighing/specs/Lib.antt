@@ -1,3 +1,4 @@
 pub mod Sitting
 pub mod Trees
 pub mod Visit
+pub mod Weighs

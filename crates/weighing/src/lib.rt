@@ -11,9 +11,12 @@ ghost use Rattle.records.specs.Records.{width, records};
 ghost use Rattle.estimate.specs.Table.{LossesOf};
 ghost use Rattle.records.specs.Held.{held, recordAt, tableOf};
 ghost use Rattle.weighing.specs.Trees.{choice};
+ghost use Rattle.weighing.specs.Weighs.{CanWeigh, Weighs};
 ghost use Rattle.weighing.specs.Visit.{Stands, Countable, Ready, Visited, mostLoss, Small, LeafOf, SplitOf, SumOf, Fits, NoneOf, ChildOf};
 
 const WIDTH: usize = 24;
+
+const DESK_SPAN: u32 = 2097152;
 
 // An open desk: its number, A, D and the samples' lengths.
 pub struct Desk {
@@ -39,9 +42,49 @@ pub struct Weighed {
     pub next: usize,
 }
 
+// What the trees of a desk's sitting lose at least, each alone and both together, and how many rows its report has.
+pub struct Least {
+    pub first: u64,
+    pub second: u64,
+    pub joint: u64,
+    pub rows: u64,
+}
+
+// Weighs the trees of a desk over the first `n` records, and keeps the decision at each of its contexts beside the record.
+pub fn weigh(numbers: &[u32], n: usize, desk: Desk, kept: &mut [u8]) -> Least
+    requires { ⌜ CanWeigh desk n (now numbers) (now kept) ⌝ }
+    ensures { λ r. ⌜ Weighs desk n (now (numbers .entry)) (now (kept .exit)) r ⌝ }
+{
+    let costs = estimate::costs_of(desk.symbols, desk.n, desk.m);
+    let key = desk.number * DESK_SPAN;
+    let root = Context {
+        key,
+        span: DESK_SPAN,
+        left: desk.depth,
+    };
+    let at = records::place_of(numbers, n, key);
+    let w = visit(numbers, kept, n, desk, costs, root, at);
+    let least = w.least;
+    let rows = w.rows;
+    Least {
+        first: least.first,
+        second: least.second,
+        joint: least.shared,
+        rows: rows.shared,
+    }
+}
+
 // The trees at a context, whose place the walk has come to. A context that is not held is answered without a descent.
 // The decision at each record of its block is kept beside it.
-fn visit(numbers: &[u32], kept: &mut [u8], n: usize, desk: Desk, costs: ByKind, here: Context, at: usize) -> Weighed
+fn visit(
+    numbers: &[u32],
+    kept: &mut [u8],
+    n: usize,
+    desk: Desk,
+    costs: ByKind,
+    here: Context,
+    at: usize,
+) -> Weighed
     requires { ⌜ (n ≤ length (now kept)) × Ready desk costs n (now numbers) (contextOf (here .key)) here at ⌝ }
     ensures { λ r. ⌜ Visited desk n (now (numbers .entry)) (contextOf (here .key)) (here .left) at (now (kept .entry)) (now (kept .exit)) r ⌝ }
 {
@@ -124,7 +167,13 @@ fn as_split(own: ByKind, kids: Weighed) -> Weighed
     let second_rows = own_rows(own.second, below.second, held.second);
     let apart = first + second;
     let rows = ByKind {
-        shared: joint_rows(own.shared, apart, below.shared, first_rows + second_rows, held.shared),
+        shared: joint_rows(
+            own.shared,
+            apart,
+            below.shared,
+            first_rows + second_rows,
+            held.shared,
+        ),
         first: first_rows,
         second: second_rows,
     };

@@ -120,13 +120,12 @@ visit-visit-requires : (t : ℕ) → visit-lts.Need-visit-requires (visit-calls 
 visit-visit-requires t c κs = let s = c .before .before .before .before .before .before .before .before .before .before .before .before .before .before .before in
     let m = c .before .before .before .before .loop in
     let z = c .before .before .before .before .before .before .before .before .if2 .left in
-    let lt = c .before .before .if3 .taken in
-    (
+    let lt = c .before .before .if3 .taken in (
       omega (arith, s .pre .0, z),
       (
         omega (arith, m .inv .0, s .pre .1 .0),
         subst (λ (u : List ℕ). Ready (s .args .desk) (s .args .costs) (s .args .n) (s .args .numbers .now) u (record { key = m .key; span = s .args .here .span / 8; left = s .args .here .left - 1 }) (m .kids .next)) (sym (turning.child-is (s .args .desk) (s .args .costs) (s .args .n) (s .args .numbers .now) (contextOf (s .args .here .key)) (s .args .here) (s .args .at) (s .pre .1 .1) z (s .args .kept .now) (m .kept) (m .a) (m .key) (m .kids) (m .inv .1) lt))
-        (turning.turn-ready (s .args .desk) (s .args .costs) (s .args .n) (s .args .numbers .now) (contextOf (s .args .here .key)) (s .args .here) (s .args .at) (s .pre .1 .1) z (s .args .kept .now) (m .kept) (m .a) (m .key) (m .kids) (m .inv .1) lt),
+            (turning.turn-ready (s .args .desk) (s .args .costs) (s .args .n) (s .args .numbers .now) (contextOf (s .args .here .key)) (s .args .here) (s .args .at) (s .pre .1 .1) z (s .args .kept .now) (m .kept) (m .a) (m .key) (m .kids) (m .inv .1) lt),
       ),
     )
 
@@ -180,8 +179,7 @@ visit-slice-write-kept-2 t c = let s = c .before .before .before .before .before
 
 visit-as-split-requires : (t : ℕ) → visit-lts.Need-as-split-requires (visit-calls t) (visit-at t) visit.Post visit-Inv-loop visit-μ-loop
 visit-as-split-requires t c κs = let s = c .before .before .before .before .before .before .before .before .before .before .before .before .before .before in
-    let m = c .before .before .before .loop in
-    (
+    let m = c .before .before .before .loop in (
       visiting.own-small (s .args .desk) (s .args .costs) (s .args .n) (s .args .numbers .now) (contextOf (s .args .here .key)) (s .args .here) (s .args .at) (s .pre .1 .1) (visit-on t (c .before .before .before .before .before .before .before .before .before .before)) (c .before .before .before .before .before .before .before .before .before .losses-at .result) (c .before .before .before .before .before .before .before .before .before .losses-at .ensures),
       turning.rows-small (s .args .desk) (s .args .costs) (s .args .n) (s .args .numbers .now) (contextOf (s .args .here .key)) (s .args .here) (s .args .at) (s .pre .1 .1) (c .before .before .before .before .before .before .before .if2 .left) (visit-on t (c .before .before .before .before .before .before .before .before .before .before)) (s .args .kept .now) (m .kept) (m .a) (m .key) (m .kids) (m .inv .1) (c .before .if3 .left),
     )
