@@ -5,3 +5,4 @@ pub mod RowOrder
 pub mod KeyOrder
 pub mod Codes
 pub mod Totalling
+pub mod Tables

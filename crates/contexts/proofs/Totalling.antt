@@ -4,9 +4,12 @@ use native.Mathlib.Nat.{le-refl, add-le-add, mul-le-mul}
 use native.Mathlib.Omega.{arith}
 use mathlib.Core.Path.{_≡_, refl, ap₂}
 use mathlib.Core.List.{List, [], _∷_}
+use lib.Dec.{T}
 use Rattle.numbers.specs.Sum.{sum}
 use Rattle.numbers.proofs.Sums.{sum-mono, sum-cong, sum-add, sum-zero, sum-same}
+use Rattle.contexts.specs.Context.{isContext}
 use Rattle.contexts.specs.Strings.{under, total, strings}
+use Rattle.contexts.proofs.Strings.{context-cons}
 
 pub total-root : (A d : ℕ) (g : List ℕ → ℕ) → g [] ≤ total A d g
 unfolding total
@@ -17,6 +20,12 @@ pub total-cong : (A d : ℕ) {g h : List ℕ → ℕ} → ((s : List ℕ) → g 
 unfolding total
 total-cong A zero e = e []
 total-cong A (suc d) e = ap₂ _+_ (e []) (sum-cong A (λ a l. total-cong A d (λ s. e (a ∷ s))))
+
+-- .. at the strings that are summed is enough
+pub total-within : (A d : ℕ) {g h : List ℕ → ℕ} → ((s : List ℕ) → T (isContext A d s) → g s ≡ h s) → total A d g ≡ total A d h
+unfolding total isContext
+total-within A zero e = e [] tt
+total-within A (suc d) e = ap₂ _+_ (e [] tt) (sum-cong A (λ a l. total-within A d (λ s c. e (a ∷ s) (context-cons A d a s l c))))
 
 pub total-add : (A d : ℕ) (g h : List ℕ → ℕ) → total A d (λ s. g s + h s) ≡ total A d g + total A d h
 unfolding total

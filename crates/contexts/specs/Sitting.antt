@@ -2,8 +2,9 @@
 use Prim.Native.Nat.{ℕ, _+_}
 use mathlib.Core.Bool.{Bool, true, false}
 use mathlib.Core.List.{List, [], _∷_}
-use lib.ListN.{length}
+use lib.ListN.{length, getD}
 use lib.Dec.{ltb}
+use Rattle.numbers.specs.Limits.{mostSymbols}
 use Rattle.numbers.specs.Sum.{one, sum}
 use Rattle.contexts.specs.Counts.{N}
 use Rattle.contexts.specs.Strings.{total}
@@ -48,6 +49,17 @@ eight c = c 0 ∷ c 1 ∷ c 2 ∷ c 3 ∷ c 4 ∷ c 5 ∷ c 6 ∷ c 7 ∷ []
 
 abbrev pub table : Sitting → List ℕ → List (List ℕ)
 table x s = eight (x .count first s) ∷ eight (x .count second s) ∷ []
+
+-- a sample's eight counts of such a table, one of them, and what all of a row add up to
+abbrev pub rowIn : List (List ℕ) → Sample → List ℕ
+rowIn t first = getD t 0 []
+rowIn t second = getD t 1 []
+
+abbrev pub countIn : List (List ℕ) → Sample → ℕ → ℕ
+countIn t i a = getD (rowIn t i) a 0
+
+abbrev pub sumOf : List ℕ → ℕ
+sumOf row = sum mostSymbols (λ a. getD row a 0)
 
 -- what a sitting at a desk has so far: the samples' lengths, the last up to D symbols of each, most recent first, and the counts
 pub record Progress : Type 0 where

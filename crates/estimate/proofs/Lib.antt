@@ -10,3 +10,4 @@ pub mod JointTies
 pub mod Unique
 pub mod Spreads
 pub mod Tables
+pub mod Agreeing

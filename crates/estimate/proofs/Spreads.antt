@@ -13,7 +13,7 @@ use Rattle.logarithm.proofs.Laws.{weight-top}
 use Rattle.logarithm.proofs.Weights.{weights-le}
 use Rattle.estimate.specs.Score.{weights, whole}
 use Rattle.estimate.specs.Recursion.{spread}
-use Rattle.estimate.specs.Table.{sumOf}
+use Rattle.contexts.specs.Sitting.{sumOf}
 
 -- a spread depends on the counts of its symbols alone, and symbols with no count add nothing
 pub spread-cong : (A : ℕ) {c e : ℕ → ℕ} → ((a : ℕ) → a < A → c a ≡ e a) → spread A c ≡ spread A e

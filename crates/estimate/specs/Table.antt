@@ -1,28 +1,17 @@
 -- "The counts of one context are a table of two samples by eight symbols": what the code of losses works on. Assumes nothing.
 use Prim.Native.Nat.{ℕ, _+_}
 use mathlib.Core.Path.{_≡_}
-use mathlib.Core.List.{List, []}
-use lib.ListN.{getD}
+use mathlib.Core.List.{List}
 use Rattle.numbers.specs.Limits.{mostSymbols}
-use Rattle.numbers.specs.Sum.{sum}
-use Rattle.contexts.specs.Sitting.{Sample, first, second, eight}
+use Rattle.contexts.specs.Sitting.{first, second, countIn}
 use Rattle.estimate.specs.Trees.{Kind, shared, own}
 use Rattle.estimate.specs.Score.{ofKind, cost}
 use Rattle.estimate.specs.Recursion.{spread}
 use Rattle.estimate.specs.declared.ByKind.{ByKind}
 
--- a sample's eight counts
-abbrev pub rowIn : List (List ℕ) → Sample → List ℕ
-rowIn t first = getD t 0 []
-rowIn t second = getD t 1 []
-
 -- the counts of the table's context as one of a kind
 abbrev pub countsIn : List (List ℕ) → Kind → ℕ → ℕ
-countsIn t k a = ofKind k (λ i. getD (rowIn t i) a 0)
-
--- what all counts of a row add up to
-abbrev pub sumOf : List ℕ → ℕ
-sumOf row = sum mostSymbols (λ a. getD row a 0)
+countsIn t k a = ofKind k (λ i. countIn t i a)
 
 -- what a context of each kind costs, where the samples have n and m symbols
 pub record CostsOf (A n m : ℕ) (r : ByKind) : Type 0 where

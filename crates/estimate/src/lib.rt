@@ -4,11 +4,11 @@ ghost use Prim.Native.Nat.{ℕ, _+_, _*_, _-_, _≤_, _<_};
 ghost use lib.ListN.{getD};
 ghost use Rattle.numbers.specs.Limits.{mostSymbols, mostCounted, topLog};
 ghost use Rattle.logarithm.specs.Logarithm.{L};
-ghost use Rattle.contexts.specs.Sitting.{first, second, eight};
+ghost use Rattle.contexts.specs.Sitting.{first, second, eight, rowIn, sumOf};
 ghost use Rattle.estimate.specs.Trees.{shared};
 ghost use Rattle.estimate.specs.Score.{cost};
 ghost use Rattle.estimate.specs.Recursion.{spread};
-ghost use Rattle.estimate.specs.Table.{rowIn, countsIn, sumOf, CostsOf, LossesOf};
+ghost use Rattle.estimate.specs.Table.{countsIn, CostsOf, LossesOf};
 
 // A number for each kind of context: shared, the first's own, the second's own.
 pub struct ByKind {

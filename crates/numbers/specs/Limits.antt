@@ -24,6 +24,10 @@ mostCounted = 1024
 abbrev pub topLog : ℕ
 topLog = 10240
 
+-- the chart question is asked of totals up to this: the longest sample that is planned, twice over
+abbrev pub mostCharted : ℕ
+mostCharted = 4096
+
 -- desks 0 to 7
 abbrev pub desks : ℕ
 desks = 8

@@ -1,24 +1,23 @@
--- What one more count under a key does to records whose keys rise: to what stands under each key, to the order, to what is held, to their number,
--- and to the part that a test on keys keeps. Assumes nothing.
+-- What one more count under a key does to records whose keys rise: to what stands under each key, to the order, to what is held and to their number.
+-- Assumes nothing.
 use mathlib.Core.Path.{_≡_, refl, sym, ap, _∙_}
 use mathlib.Core.Logic.{_≢_}
 use mathlib.Core.Bool.{Bool, true, false, cond, not, _||_, or-self-left}
-use mathlib.Core.List.{List, [], _∷_, _++_}
-use Prim.Native.Nat.{ℕ, zero, suc, _+_, _≤_, _<_, suc-le-suc}
-use native.Mathlib.Nat.{not-suc-le-zero, le-of-suc-le-suc}
+use mathlib.Core.List.{List, [], _∷_}
+use Prim.Native.Nat.{ℕ, suc, _+_, _≤_, _<_}
 use native.Mathlib.Omega.{arith}
 use borrow.Author.Tests.{lt-ltb, le-ltb, eq-eqb, ne-eqb, eqb-true, eqb-false}
 use lib.Dec.{T, eqb}
-use lib.ListN.{length, take, drop, getD, set, length-set}
+use lib.ListN.{length, getD, length-set}
 use lib.Seq.{getD-set-other}
 use Rattle.numbers.specs.Sum.{one}
 use Rattle.numbers.proofs.Tests.{or-swap}
 use Rattle.numbers.proofs.Orders.{less, same, more, order}
-use Rattle.records.specs.Records.{width, key, keys, rises, blank, lookup}
-use Rattle.records.specs.Held.{rank, held, keep, Wide}
+use Rattle.records.specs.Records.{key, keys, rises, blank, lookup}
+use Rattle.records.specs.Held.{held, Rising, Wide}
 use Rattle.records.specs.Bumped.{raised, bumpedAt}
-use Rattle.records.proofs.Rising.{rises-first, rises-rest, rises-cons, rises-weaken}
-use Rattle.records.proofs.Finding.{held-none, lookup-absent, rank-zero, rank-suc, Missed}
+use Rattle.records.proofs.Rising.{rises-first, rises-rest, rises-cons}
+use Rattle.records.proofs.Finding.{held-none, lookup-absent}
 
 -- ---- the three cases
 
@@ -34,28 +33,6 @@ module _ (k c : ℕ) (r : List ℕ) (rs : List (List ℕ)) where
   pub bumped-before : k < key r → bumpedAt k c (r ∷ rs) ≡ raised c (blank k) ∷ r ∷ rs
   unfolding bumpedAt
   bumped-before h = rw (le-ltb (key r) k (omega arith), ne-eqb (key r) k (λ e. omega arith))
-
--- by the place p of the key: the record there is raised ..
-pub bumped-hit : (k c p : ℕ) (rs : List (List ℕ)) → rank k (keys rs) ≡ p → p < length rs → key (getD rs p []) ≡ k
-    → bumpedAt k c rs ≡ set rs p (raised c (getD rs p []))
-bumped-hit k c p [] e h g = absurd (not-suc-le-zero h)
-bumped-hit k c zero (r ∷ rs) e h g = bumped-here k c r rs g
-bumped-hit k c (suc p) (r ∷ rs) e h g =
-    let at = rank-suc k (key r) (keys rs) p e in
-    bumped-later k c r rs (at .0) ∙ ap (λ (t : List (List ℕ)). r ∷ t) (bumped-hit k c p rs (at .1) (le-of-suc-le-suc h) g)
-
--- .. or a new one is put there
-pub bumped-miss : (k c p : ℕ) (rs : List (List ℕ)) → rank k (keys rs) ≡ p → Missed k p rs
-    → bumpedAt k c rs ≡ take p rs ++ (raised c (blank k) ∷ drop p rs)
-unfolding bumpedAt rank
-bumped-miss k c p [] e m = rw (← e)
-bumped-miss k c zero (r ∷ rs) e m =
-    let least = rank-zero k (key r) (keys rs) e in
-    let other = m (omega arith) in
-    bumped-before k c r rs (omega arith)
-bumped-miss k c (suc p) (r ∷ rs) e m =
-    let at = rank-suc k (key r) (keys rs) p e in
-    bumped-later k c r rs (at .0) ∙ ap (λ (t : List (List ℕ)). r ∷ t) (bumped-miss k c p rs (at .1) (λ h. m (suc-le-suc h)))
 
 -- every record still has all its numbers
 pub wide-bumped : (k c : ℕ) (rs : List (List ℕ)) → Wide rs → Wide (bumpedAt k c rs)
@@ -133,7 +110,7 @@ module _ (c : ℕ) (past : 1 ≤ c) where
       ]
 
   -- THEOREM. What stands under any key after one more count under k
-  pub lookup-bumped : (k k′ : ℕ) (rs : List (List ℕ)) → T (rises 0 (keys rs))
+  pub lookup-bumped : (k k′ : ℕ) (rs : List (List ℕ)) → Rising rs
       → lookup k′ (bumpedAt k c rs) ≡ cond (eqb k k′) (raised c (lookup k′ rs)) (lookup k′ rs)
   lookup-bumped k k′ rs up = go (eqb k k′) refl
     where

@@ -5,7 +5,7 @@ use mathlib.Core.List.{List, [], _∷_}
 use Prim.Native.Nat.{ℕ, zero, suc, _+_, _≤_, _<_}
 use native.Mathlib.Omega.{arith}
 use borrow.Author.Tests.{eq-eqb, ne-eqb}
-use lib.Dec.{T, eqb}
+use lib.Dec.{eqb}
 use lib.ListN.{length, take, drop, getD, set, replicate, length-drop}
 use lib.Seq.{drop-set-add, drop-set-lt, take-set-lt, take-set-le, getD-drop, getD-take, getD-set-same, getD-set-other, length-take-le}
 use Rattle.numbers.specs.Limits.{mostSymbols}

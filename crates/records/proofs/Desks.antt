@@ -1,22 +1,36 @@
 -- One desk's records: they stand together, and taking them out leaves every other desk's as they were. Assumes nothing.
 use mathlib.Core.Path.{_≡_, refl, sym, ap, _∙_}
 use mathlib.Core.Logic.{_≢_}
-use mathlib.Core.Bool.{Bool, true, false, not}
+use mathlib.Core.Bool.{Bool, true, false, cond, not, _&&_}
 use mathlib.Core.List.{List, [], _∷_, _++_}
-use Prim.Native.Nat.{ℕ, zero, suc, _+_, _*_, _/_, _≤_, _<_}
+use Prim.Native.Nat.{ℕ, suc, _+_, _*_, _≤_, _<_}
 use native.Mathlib.Omega.{arith}
 use borrow.Author.Tests.{lt-ltb, le-ltb, eq-eqb, ne-eqb}
 use lib.Dec.{T, eqb, eqb→eq}
-use lib.ListN.{take, drop}
-use Rattle.numbers.proofs.Tests.{is-true}
-use Rattle.numbers.proofs.Orders.{Leb, le, gt, lebView}
+use lib.ListN.{length, take, drop, getD}
+use Rattle.numbers.specs.Sum.{one, sum}
+use Rattle.numbers.proofs.Orders.{Leb, le, gt, lebView, eqb-sym}
+use Rattle.numbers.proofs.Sums.{sum-zero, sum-cong, sum-pick}
 use Rattle.contexts.specs.Keys.{deskSpan, deskOf}
 use Rattle.records.specs.Records.{key, keys, rises, blank, lookup}
-use Rattle.records.specs.Held.{rank, keep, ofDesk, without}
+use Rattle.records.specs.Held.{rank, held, keep, ofDesk, without, Rising, Wide}
 use Rattle.records.proofs.Rising.{rises-rest, rank-none}
-use Rattle.records.proofs.Keeping.{lookup-keep, lookup-out, keep-keep, keep-none}
+use Rattle.records.proofs.Keeping.{rises-keep, wide-keep, length-split, held-keep, lookup-keep, lookup-out, keep-keep, keep-none}
 
 module _ (d : ℕ) where
+  pub rising-without : (rs : List (List ℕ)) → Rising rs → Rising (without d rs)
+  rising-without rs up = rises-keep (λ k. not (ofDesk d k)) 0 rs up
+
+  pub wide-without : (rs : List (List ℕ)) → Wide rs → Wide (without d rs)
+  wide-without rs w = wide-keep (λ k. not (ofDesk d k)) rs w
+
+  -- the desk's records and the others are all
+  pub length-without : (rs : List (List ℕ)) → length (keep (ofDesk d) rs) + length (without d rs) ≡ length rs
+  length-without rs = length-split (ofDesk d) rs
+
+  pub held-without : (k : ℕ) (rs : List (List ℕ)) → held k (without d rs) ≡ (not (ofDesk d k) && held k rs)
+  held-without k rs = held-keep (λ x. not (ofDesk d x)) k rs
+
   -- another desk's records stay
   pub other-without : (e : ℕ) (rs : List (List ℕ)) → d ≢ e → keep (ofDesk e) (without d rs) ≡ keep (ofDesk e) rs
   other-without e rs n = keep-keep (ofDesk e) (λ k. not (ofDesk d k)) rs stays
@@ -37,6 +51,21 @@ module _ (d : ℕ) where
 
   pub lookup-gone : (k : ℕ) (rs : List (List ℕ)) → deskOf k ≡ d → lookup k (without d rs) ≡ blank k
   lookup-gone k rs q = lookup-out (λ x. not (ofDesk d x)) k rs (ap not (eq-eqb (deskOf k) d q))
+
+-- the records of all desks are all
+pub length-desks : (n : ℕ) (rs : List (List ℕ)) → ((p : ℕ) → p < length rs → deskOf (key (getD rs p [])) < n) → length rs ≡ sum n (λ d. length (keep (ofDesk d) rs))
+unfolding keep
+length-desks n [] h = sym (sum-zero n (λ d l. refl))
+length-desks n (r ∷ rs) h =
+    let ih = length-desks n rs (λ p l. h (suc p) (omega arith)) in
+    let more = sum-pick n (deskOf (key r)) (λ d. length (keep (ofDesk d) rs)) true (h 0 (omega arith)) in
+    let each : sum n (λ d. length (cond (eqb (deskOf (key r)) d) (r ∷ keep (ofDesk d) rs) (keep (ofDesk d) rs))) ≡ sum n (λ d. length (keep (ofDesk d) rs) + one (eqb d (deskOf (key r)))) =
+    sum-cong n (λ d l. rw (eqb-sym (deskOf (key r)) d) (one-longer (eqb d (deskOf (key r))) (keep (ofDesk d) rs))) in
+    omega arith
+  where
+    one-longer : (t : Bool) (x : List (List ℕ)) → length (cond t (r ∷ x) x) ≡ length x + one t
+    one-longer true x = omega arith
+    one-longer false x = omega arith
 
 rank-past : (k x : ℕ) (ks : List ℕ) → x < k → rank k (x ∷ ks) ≡ suc (rank k ks)
 unfolding rank

@@ -1,65 +1,26 @@
--- What a feed does to records whose keys rise: to what stands under each key, to what is held, to the order, and to the number of records.
--- Assumes nothing.
-use mathlib.Core.Path.{_≡_, refl, sym, ap, subst, _∙_}
-use mathlib.Core.Logic.{_⊎_, inl, inr}
-use mathlib.Core.Bool.{Bool, true, false, cond, not, _&&_, _||_, and-false, or-assoc}
-use mathlib.Core.List.{List, [], _∷_}
+-- What a feed does to records whose keys rise: to what stands under each key, to what is held and to the order. Assumes nothing.
+use mathlib.Core.Path.{_≡_, refl, sym, ap, _∙_}
+use mathlib.Core.Bool.{Bool, true, false, cond, _&&_, _||_, and-false, or-assoc}
+use mathlib.Core.List.{List}
 use Prim.Native.Nat.{ℕ, zero, suc, _+_, _≤_, _<_}
 use native.Mathlib.Omega.{arith}
 use borrow.Author.Tests.{lt-ltb, le-ltb, eq-eqb, ne-eqb}
-use lib.Dec.{T, eqb, ltb, eqb→eq, lt→ltb}
-use lib.ListN.{length, take, getD, length-take}
+use lib.Dec.{eqb, ltb}
+use lib.ListN.{length, take, getD}
 use Rattle.numbers.specs.Limits.{mostSymbols}
-use Rattle.numbers.specs.Sum.{one, sum}
-use Rattle.numbers.proofs.Tests.{bool-ext, both, left, right, one-le}
-use Rattle.numbers.proofs.Orders.{less, same, more, order, eq→eqb}
-use Rattle.numbers.proofs.Sums.{sum-mono, sum-same}
-use Rattle.contexts.specs.Context.{isContext, eqs, begins}
+use Rattle.numbers.specs.Sum.{one}
+use Rattle.numbers.proofs.Orders.{less, same, more, order}
+use Rattle.contexts.specs.Context.{begins}
 use Rattle.contexts.specs.Keys.{keyOf}
 use Rattle.contexts.specs.Sitting.{Sample, sameSample}
-use Rattle.contexts.proofs.Strings.{newest-below, older-context, context-cons, eqs→eq, eq→eqs, begins→take, begins-take}
 use Rattle.contexts.proofs.KeyOrder.{Within, eqb-key}
 use Rattle.records.specs.Records.{countsOf, lookup}
 use Rattle.records.specs.Held.{held, countAt, Rising, Wide}
-use Rattle.records.specs.Bumped.{cellOf, raised, bumped}
-use Rattle.records.specs.Fed.{fedTo, fed, missing}
-use Rattle.records.proofs.Bumping.{rises-bumped, wide-bumped, lookup-bumped, held-bumped, length-bumped}
+use Rattle.records.specs.Bumped.{cellOf, raised}
+use Rattle.records.specs.Fed.{fedTo, fed}
+use Rattle.records.proofs.Bumping.{rises-bumped, wide-bumped, lookup-bumped, held-bumped}
+use Rattle.records.proofs.Followed.{context-take, eqs-take, begins-all}
 use Rattle.records.proofs.Counting.{cell-past, count-raised, wide-lookup}
-
--- ---- the contexts that a symbol follows
-
-pub context-take : (A d j : ℕ) (r : List ℕ) → T (isContext A d r) → T (isContext A d (take j r))
-unfolding isContext
-context-take A d zero r c = tt
-context-take A d (suc j) [] c = tt
-context-take A zero (suc j) (x ∷ r) c = absurd c
-context-take A (suc d) (suc j) (x ∷ r) c =
-    context-cons A d x (take j r) (newest-below A d x r c) (context-take A d j r (older-context A d x r c))
-
-pub begins-length : (s r : List ℕ) → T (begins s r) → length s ≤ length r
-begins-length s r h = omega (arith, ap length (begins→take s r h), length-take (length s) r)
-
--- s is the one of length j where it begins the recent symbols and has that length ..
-eqs-take : (s r : List ℕ) (j : ℕ) → j ≤ length r → eqs (take j r) s ≡ (begins s r && eqb (length s) j)
-eqs-take s r j l = bool-ext _ _ to back
-  where
-    to : T (eqs (take j r) s) → T (begins s r && eqb (length s) j)
-    to h =
-        let e = eqs→eq (take j r) s h in
-        let n : length s ≡ j = omega (arith, ap length e, length-take j r) in
-        both (begins s r) (eqb (length s) j) (subst (λ (z : List ℕ). T (begins z r)) e (begins-take j r)) (eq→eqb (length s) j n)
-
-    back : T (begins s r && eqb (length s) j) → T (eqs (take j r) s)
-    back h =
-        let e = begins→take s r (left (begins s r) (eqb (length s) j) h) in
-        let n = eqb→eq (length s) j (right (begins s r) (eqb (length s) j) h) in
-        eq→eqs (take j r) s (ap (λ (z : ℕ). take z r) (sym n) ∙ e)
-
--- .. and one of all where it begins them
-begins-all : (s r : List ℕ) → (begins s r && ltb (length s) (suc (length r))) ≡ begins s r
-begins-all s r =
-    bool-ext _ _ (left (begins s r) (ltb (length s) (suc (length r))))
-    (λ h. both (begins s r) _ h (lt→ltb (length s) (suc (length r)) (let l = begins-length s r h in omega arith)))
 
 -- ---- the order and the numbers of a record are kept
 

@@ -8,7 +8,7 @@ use native.Mathlib.Omega.{arith}
 use borrow.Author.Tests.{ltb-true, ltb-false, eqb-true, eqb-false, eq-eqb, ne-eqb}
 use lib.Dec.{T, ltb, eqb, eqb→eq}
 use lib.ListN.{length, getD, List·getD-map, length-map}
-use Rattle.numbers.proofs.Tests.{is-true, choose, or-left, or-right, or-rest, or-none}
+use Rattle.numbers.proofs.Tests.{is-true, choose, or-left, or-right}
 use Rattle.numbers.proofs.Orders.{eq→eqb}
 use Rattle.records.specs.Records.{width, records, key, keys, rises, blank, lookup}
 use Rattle.records.specs.Held.{rank, held, Rising}

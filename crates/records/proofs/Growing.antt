@@ -1,12 +1,12 @@
 -- How many records a feed adds, which keys are new, and that it is a matter of its own desk alone. Assumes nothing.
 use mathlib.Core.Path.{_≡_, refl, sym, ap, subst, _∙_}
-use mathlib.Core.Logic.{_≢_, _⊎_, inl, inr}
-use mathlib.Core.Bool.{Bool, true, false, not, _&&_, _||_, and-false}
+use mathlib.Core.Logic.{_≢_}
+use mathlib.Core.Bool.{Bool, true, false, not, _||_, and-false}
 use mathlib.Core.List.{List}
-use Prim.Native.Nat.{ℕ, zero, suc, _+_, _*_, _≤_, _<_}
+use Prim.Native.Nat.{ℕ, zero, suc, _+_, _≤_}
 use native.Mathlib.Omega.{arith}
 use borrow.Author.Tests.{le-ltb, eq-eqb, ne-eqb}
-use lib.Dec.{T, eqb, ltb, eqb→eq}
+use lib.Dec.{T, eqb, eqb→eq}
 use lib.ListN.{length, take, length-take}
 use Rattle.numbers.specs.Sum.{one, sum}
 use Rattle.numbers.proofs.Tests.{one-le}
@@ -20,7 +20,8 @@ use Rattle.records.specs.Fed.{fedTo, fed, missing}
 use Rattle.records.proofs.Bumping.{held-bumped, length-bumped}
 use Rattle.records.proofs.Counting.{cell-past}
 use Rattle.records.proofs.Keeping.{rises-keep, held-keep, keep-bumped-other, keep-bumped-own}
-use Rattle.records.proofs.Feeding.{context-take, rising-fedTo, held-fedTo}
+use Rattle.records.proofs.Followed.{context-take}
+use Rattle.records.proofs.Feeding.{rising-fedTo, held-fedTo}
 
 -- whether the context of length j is missing, as a number
 abbrev pub lacks : ℕ → List ℕ → List (List ℕ) → ℕ → ℕ
@@ -32,20 +33,26 @@ missing-le d r rs =
     let most : missing d r rs ≤ sum (suc (length r)) (λ j. 1) = sum-mono (suc (length r)) (λ j l. one-le (not (held (keyOf d (take j r)) rs))) in
     omega (arith, sum-same (suc (length r)) 1)
 
--- a key that a feed makes held is that of a context which begins the recent symbols
-pub held-fed-new : (d : ℕ) (i : Sample) (a : ℕ) (r : List ℕ) (j k : ℕ) (rs : List (List ℕ)) → T (held k (fedTo j d i a r rs))
-    → T (held k rs) ⊎ ((l : ℕ) × (k ≡ keyOf d (take l r)))
-unfolding fedTo
-held-fed-new d i a r zero k rs h = inl h
-held-fed-new d i a r (suc j) k rs h = go (held-fed-new d i a r j k rs) (eqb (keyOf d (take j r)) k) refl
-  where
-    h′ : T (eqb (keyOf d (take j r)) k || held k (fedTo j d i a r rs))
-    h′ = rw (held-bumped (cellOf i a) (cell-past i a) (keyOf d (take j r)) k (fedTo j d i a r rs)) at h
+-- where a key that is held after a feed comes from: it was held before, or is that of a context that the symbol follows
+pub data Origin (d : ℕ) (r : List ℕ) (rs : List (List ℕ)) (k : ℕ) : Type 0 where
+  before : T (held k rs) → Origin d r rs k
+  followed : (l : ℕ) → l ≤ length r → k ≡ keyOf d (take l r) → Origin d r rs k
 
-    go : (T (held k (fedTo j d i a r rs)) → T (held k rs) ⊎ ((l : ℕ) × (k ≡ keyOf d (take l r))))
-        → (t : Bool) → eqb (keyOf d (take j r)) k ≡ t → T (held k rs) ⊎ ((l : ℕ) × (k ≡ keyOf d (take l r)))
-    go ih true e = inr (j, sym (eqb→eq (keyOf d (take j r)) k (subst T (sym e) tt)))
-    go ih false e = ih (rw e at h′)
+module _ (d : ℕ) (i : Sample) (a : ℕ) (r : List ℕ) where
+  originTo : (j : ℕ) → j ≤ suc (length r) → (k : ℕ) (rs : List (List ℕ)) → T (held k (fedTo j d i a r rs)) → Origin d r rs k
+  unfolding fedTo
+  originTo zero l k rs h = before h
+  originTo (suc j) l k rs h = go (originTo j (omega arith) k rs) (eqb (keyOf d (take j r)) k) refl
+    where
+      h′ : T (eqb (keyOf d (take j r)) k || held k (fedTo j d i a r rs))
+      h′ = rw (held-bumped (cellOf i a) (cell-past i a) (keyOf d (take j r)) k (fedTo j d i a r rs)) at h
+
+      go : (T (held k (fedTo j d i a r rs)) → Origin d r rs k) → (t : Bool) → eqb (keyOf d (take j r)) k ≡ t → Origin d r rs k
+      go ih true e = followed j (omega arith) (sym (eqb→eq (keyOf d (take j r)) k (subst T (sym e) tt)))
+      go ih false e = ih (rw e at h′)
+
+  pub origin : (k : ℕ) (rs : List (List ℕ)) → T (held k (fed d i a r rs)) → Origin d r rs k
+  origin k rs h = originTo (suc (length r)) (omega arith) k rs h
 
 module _ (d : ℕ) (i : Sample) (a : ℕ) (r : List ℕ) (cr : Within r) where
   desk-of : (j : ℕ) → deskOf (keyOf d (take j r)) ≡ d

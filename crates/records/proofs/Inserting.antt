@@ -1,8 +1,9 @@
 -- The two ways through `bump`, as the code has them: the record at the key's place is raised, or a new one is put there. Assumes nothing.
-use mathlib.Core.Path.{_≡_, refl, sym, ap, _∙_}
+use mathlib.Core.Path.{_≡_, sym, ap, _∙_}
 use mathlib.Core.Bool.{Bool, false, not}
-use mathlib.Core.List.{List, [], _++_}
-use Prim.Native.Nat.{ℕ, _+_, _-_, _*_, _≤_, _<_}
+use mathlib.Core.List.{List, [], _∷_, _++_}
+use Prim.Native.Nat.{ℕ, zero, suc, _+_, _-_, _*_, _≤_, _<_, suc-le-suc}
+use native.Mathlib.Nat.{not-suc-le-zero, le-of-suc-le-suc}
 use native.Mathlib.Omega.{arith}
 use lib.ListN.{length, take, drop, getD, set, length-set, length-drop, length-append}
 use lib.Seq.{drop-set-lt, take-take, length-take-le}
@@ -14,8 +15,32 @@ use Rattle.records.specs.Bumped.{raised, bumpedAt, Bumpable, Written}
 use Rattle.records.proofs.Parts.{length-parts, cell-at, parts-set, parts-insert}
 use Rattle.records.proofs.Lent.{past-lent}
 use Rattle.records.proofs.Rising.{key-at}
-use Rattle.records.proofs.Finding.{lookup-found, held-lost, missed}
-use Rattle.records.proofs.Bumping.{bumped-hit, bumped-miss}
+use Rattle.records.proofs.Finding.{lookup-found, held-lost, missed, rank-zero, rank-suc, Missed}
+use Rattle.records.proofs.Bumping.{bumped-later, bumped-here, bumped-before}
+
+-- by the place p of the key: the record there is raised ..
+pub bumped-hit : (k c p : ℕ) (rs : List (List ℕ)) → rank k (keys rs) ≡ p → p < length rs → key (getD rs p []) ≡ k
+    → bumpedAt k c rs ≡ set rs p (raised c (getD rs p []))
+bumped-hit k c p [] e h g = absurd (not-suc-le-zero h)
+bumped-hit k c zero (r ∷ rs) e h g = bumped-here k c r rs g
+bumped-hit k c (suc p) (r ∷ rs) e h g =
+    let at = rank-suc k (key r) (keys rs) p e in
+    bumped-later k c r rs (at .0) ∙ ap (λ (t : List (List ℕ)). r ∷ t) (bumped-hit k c p rs (at .1) (le-of-suc-le-suc h) g)
+
+-- .. or a new one is put there
+pub bumped-miss : (k c p : ℕ) (rs : List (List ℕ)) → rank k (keys rs) ≡ p → Missed k p rs
+    → bumpedAt k c rs ≡ take p rs ++ (raised c (blank k) ∷ drop p rs)
+unfolding bumpedAt rank
+bumped-miss k c p [] e m = rw (← e)
+bumped-miss k c zero (r ∷ rs) e m =
+    let least = rank-zero k (key r) (keys rs) e in
+    let other = m (omega arith) in
+    bumped-before k c r rs (omega arith)
+bumped-miss k c (suc p) (r ∷ rs) e m =
+    let at = rank-suc k (key r) (keys rs) p e in
+    bumped-later k c r rs (at .0) ∙ ap (λ (t : List (List ℕ)). r ∷ t) (bumped-miss k c p rs (at .1) (λ h. m (suc-le-suc h)))
+
+-- ---- in the numbers
 
 module _ (k c n p : ℕ) (l : List ℕ) (ask : Bumpable k c n l) (at : p ≡ rank k (keys (records n l))) where
   module _ (inside : p < n) (found : getD l (width * p) 0 ≡ k) where

@@ -1,18 +1,15 @@
 -- The records that a test on keys keeps: a desk's, or all but a desk's. What happens under other keys does not change them. Assumes nothing.
 use mathlib.Core.Path.{_≡_, refl, sym, ap, subst, _∙_}
-use mathlib.Core.Logic.{_≢_}
 use mathlib.Core.Bool.{Bool, true, false, cond, not, _&&_, _||_, and-false}
 use mathlib.Core.List.{List, [], _∷_}
 use Prim.Native.Nat.{ℕ, suc, _+_, _≤_, _<_}
 use native.Mathlib.Omega.{arith}
-use borrow.Author.Tests.{eq-eqb, ne-eqb, eqb-true}
+use borrow.Author.Tests.{eqb-true}
 use lib.Dec.{T, eqb}
 use lib.ListN.{length}
-use Rattle.numbers.proofs.Tests.{is-true, is-false}
 use Rattle.numbers.proofs.Orders.{less, same, more, order}
-use Rattle.contexts.specs.Keys.{deskOf}
 use Rattle.records.specs.Records.{key, keys, rises, blank, lookup}
-use Rattle.records.specs.Held.{held, keep, ofDesk, without, Wide}
+use Rattle.records.specs.Held.{held, keep, Wide}
 use Rattle.records.specs.Bumped.{raised, bumpedAt}
 use Rattle.records.proofs.Rising.{rises-first, rises-rest, rises-cons, rises-weaken}
 use Rattle.records.proofs.Finding.{lookup-absent}

@@ -1,11 +1,12 @@
 -- A part of a slice from a to e that was lent and has come back as ys: the slice then holds `take a l ++ (ys ++ drop (e - a) (drop a l))`.
 -- Assumes nothing.
-use mathlib.Core.Path.{_≡_, refl, sym, ap, _∙_}
-use mathlib.Core.List.{List, _++_, append-assoc}
+use mathlib.Core.Path.{_≡_, sym, ap, _∙_}
+use mathlib.Core.List.{List, [], _++_, append-assoc, append-nil}
 use Prim.Native.Nat.{ℕ, _+_, _-_, _≤_}
+use native.Mathlib.Nat.{le-of-eq}
 use native.Mathlib.Omega.{arith}
-use lib.ListN.{length, take, drop, length-append, length-drop, take-append-drop}
-use lib.Seq.{length-take-le, drop-at, drop-append-le, drop-drop}
+use lib.ListN.{length, take, drop, length-append, length-drop, take-append-drop, drop-of-length-le}
+use lib.Seq.{length-take-le, drop-at, drop-append-le, drop-drop, take-all}
 
 -- what agrees from a on agrees from b on
 pub agree-later : (a b : ℕ) (x y : List ℕ) → a ≤ b → drop a x ≡ drop a y → drop b x ≡ drop b y
@@ -45,3 +46,12 @@ module _ (a e : ℕ) (l : List ℕ) (h : a ≤ e) (g : e ≤ length l) where
       ∙ ap (drop (e - a - c)) (take-append-drop (e - a) (drop a l))
       ∙ drop-drop (e - a - c) a l
       ∙ ap (λ (k : ℕ). drop k l) whole
+
+-- a part up to the end, as it is lent and as it comes back
+pub tail-lent : (a : ℕ) (l : List ℕ) → take (length l - a) (drop a l) ≡ drop a l
+tail-lent a l = take-all (length l - a) (drop a l) (le-of-eq (length-drop a l))
+
+pub tail-back : (a : ℕ) (ys l : List ℕ) → take a l ++ (ys ++ drop (length l - a) (drop a l)) ≡ take a l ++ ys
+tail-back a ys l =
+    let none : drop (length l - a) (drop a l) ≡ [] = drop-of-length-le (drop a l) {i = length l - a} (le-of-eq (length-drop a l)) in
+    rw (none, append-nil ys)

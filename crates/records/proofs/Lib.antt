@@ -10,5 +10,10 @@ pub mod Desks
 pub mod Shifting
 pub mod Inserting
 pub mod Removing
+pub mod Followed
 pub mod Feeding
 pub mod Growing
+pub mod KeyWalk
+pub mod FeedWalk
+pub mod Settling
+pub mod Examples

@@ -2,7 +2,7 @@
 use mathlib.Core.Path.{_≡_, refl, ap, _∙_}
 use mathlib.Core.Bool.{Bool, true, false, cond}
 use mathlib.Core.List.{List, [], _∷_}
-use Prim.Native.Nat.{ℕ, zero, suc, _+_, _*_, _≤_, _<_, suc-le-suc}
+use Prim.Native.Nat.{ℕ, zero, suc, _*_, _≤_, _<_, suc-le-suc}
 use native.Mathlib.Nat.{not-suc-le-zero, le-of-suc-le-suc, add-zero}
 use native.Mathlib.Omega.{arith}
 use borrow.Author.Tests.{ltb-true, lt-ltb, le-ltb}
@@ -84,6 +84,10 @@ rank-mono k k′ (x ∷ xs) h = go (ltb x k) refl (rank-mono k k′ xs h)
         let low = ltb-true x k e in
         rw (e, lt-ltb x k′ (omega arith)) (suc-le-suc ih)
     go false e ih = rw e (omega arith)
+
+-- the place of an equal key
+pub rank-same : (k k′ : ℕ) (ks : List ℕ) (p : ℕ) → p ≡ rank k ks → k ≡ k′ → p ≡ rank k′ ks
+rank-same k k′ ks p at e = at ∙ ap (λ (x : ℕ). rank x ks) e
 
 -- a key that is not above the bound stands before all
 pub rank-none : (k lo : ℕ) (ks : List ℕ) → k ≤ lo → T (rises lo ks) → rank k ks ≡ 0

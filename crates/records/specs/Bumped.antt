@@ -29,7 +29,7 @@ bumpedAt k c (r ∷ rs) =
 abbrev pub bumped : ℕ → Sample → ℕ → List (List ℕ) → List (List ℕ)
 bumped k i a = bumpedAt k (cellOf i a)
 
--- what a function that leaves m records promises: they are `rs`, and no number from their end on was written
+-- what a function that leaves m records promises: they are `rs`, and every number from their end on is as before
 pub record Written (rs : List (List ℕ)) (m : ℕ) (before after : List ℕ) : Type 0 where
   pub live : records m after ≡ rs
   pub past : drop (width * m) after ≡ drop (width * m) before

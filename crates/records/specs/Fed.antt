@@ -32,14 +32,14 @@ abbrev pub missing : ℕ → List ℕ → List (List ℕ) → ℕ
 missing d recent rs = sum (suc (length recent)) (λ j. one (not (held (keyOf d (take j recent)) rs)))
 
 -- what counting the missing contexts asks: n records in rising order, a desk, and recent symbols within the limits
-pub record Asked (d : ℕ) (recent : List ℕ) (n : ℕ) (l : List ℕ) : Type 0 where
+pub record Askable (d : ℕ) (recent : List ℕ) (n : ℕ) (l : List ℕ) : Type 0 where
   pub standing : Standing n l
   pub desk : d < desks
   pub context : T (isContext mostSymbols deepest recent)
 
 -- what a feed asks besides: a sample, a symbol, room for the missing contexts, and no count above a sample's longest
 pub record Feedable (d i a : ℕ) (recent : List ℕ) (n : ℕ) (l : List ℕ) : Type 0 where
-  pub asked : Asked d recent n l
+  pub asked : Askable d recent n l
   pub sample : i < 2
   pub symbol : a < mostSymbols
   pub room : width * (n + missing d recent (records n l)) ≤ length l

@@ -1,20 +1,29 @@
 // The records of a store: one dense run of records of 24 numbers, strictly rising in key.
 // Each function works on the store's part from the header on, of any length that holds the records.
 ghost use mathlib.Core.Path.{_≡_};
+ghost use mathlib.Core.Bool.{not};
 ghost use mathlib.Core.List.{_++_};
-ghost use Prim.Native.Nat.{_+_, _-_, _*_, _≤_, _<_};
+ghost use Prim.Native.Nat.{_+_, _-_, _*_, _^_, _≤_, _<_};
 ghost use lib.ListN.{length, take, drop, getD};
 ghost use Rattle.numbers.specs.Limits.{longest};
+ghost use Rattle.numbers.specs.Sum.{one};
 ghost use Rattle.contexts.specs.Sitting.{eight};
 ghost use Rattle.records.specs.Records.{width, records, blank, lookup};
 ghost use Rattle.records.specs.Held.{held, recordAt, tableOf, without, Standing, Removable, Placed};
 ghost use Rattle.records.specs.Bumped.{raised, bumpedAt, Cell, Bumpable, Written};
+ghost use Rattle.records.specs.Fed.{sampleOf, fed, missing, Askable, Feedable};
 
+// How many numbers a record has.
 const WIDTH: usize = 24;
 
+// How many counts a sample has in a record.
 const SYMBOLS: usize = 8;
 
+// How many keys a desk has.
 const DESK_SPAN: u32 = 2097152;
+
+// What the most recent symbol weighs in a key; each older one weighs an eighth of the one before.
+const NEWEST: u32 = 262144;
 
 // The counts of the record at a place.
 pub fn counts_at(numbers: &[u32], at: usize) -> [[u32; 8]; 2]
@@ -71,8 +80,8 @@ pub fn table_of(numbers: &[u32], n: usize, key: u32) -> [[u32; 8]; 2]
     [[0u32; 8]; 2]
 }
 
-// One more at a cell of the record of a key, which is put in its place in the order where none of the first `n` has it.
-// Gives the number of records then.
+// One more at a cell of the record under a key; where none of the first `n` has the key, a new one is put in its place in the order.
+// Gives the number of records then. A new record uses up the 24 numbers behind the `n` records, and nothing further on is written.
 pub fn bump(numbers: &mut [u32], n: usize, key: u32, cell: usize) -> usize
     requires { ⌜ Bumpable key cell n (now numbers) ⌝ }
     ensures { λ r. ⌜ Written (bumpedAt key cell (records n (now (numbers .entry)))) r (now (numbers .entry)) (now (numbers .exit)) ⌝ }
@@ -95,13 +104,82 @@ pub fn remove_desk(numbers: &mut [u32], n: usize, desk: u32) -> usize
     requires { ⌜ Removable desk n (now numbers) ⌝ }
     ensures { λ r. ⌜ Written (without desk (records n (now (numbers .entry)))) r (now (numbers .entry)) (now (numbers .exit)) ⌝ }
 {
-    let first = place_of(numbers, n, desk * DESK_SPAN);
-    let next = place_of(numbers, n, (desk + 1) * DESK_SPAN);
+    let least = desk * DESK_SPAN;
+    let past = least + DESK_SPAN;
+    let first = place_of(numbers, n, least);
+    let next = place_of(numbers, n, past);
     let gone = next - first;
     let from = WIDTH * first;
     let to = WIDTH * n;
     shift_down(&mut numbers[from..to], WIDTH * gone);
     n - gone
+}
+
+// How many of the contexts that a symbol follows none of the first `n` records has. `recent` are the symbols before it, most recent first.
+pub fn missing_in(numbers: &[u32], n: usize, desk: u32, recent: &[u32]) -> usize
+    requires { ⌜ Askable desk (now recent) n (now numbers) ⌝ }
+    ensures { λ r. ⌜ r ≡ missing desk (now (recent .entry)) (records n (now (numbers .entry))) ⌝ }
+{
+    let mut key = desk * DESK_SPAN;
+    let mut weight = NEWEST;
+    let mut count: usize = 0;
+    let mut sought: usize = 0;
+    while sought <= recent.len() {
+        count = count + lacks(numbers, n, key);
+        key = longer(key, weight, recent, sought);
+        weight = weight / 8;
+        sought = sought + 1;
+    }
+    count
+}
+
+// A symbol is fed to a sample: each context that it follows gets one more. `recent` are the symbols before it, most recent first.
+// Gives the number of records then.
+pub fn feed_records(
+    numbers: &mut [u32],
+    n: usize,
+    desk: u32,
+    sample: u32,
+    symbol: u32,
+    recent: &[u32],
+) -> usize
+    requires { ⌜ Feedable desk sample symbol (now recent) n (now numbers) ⌝ }
+    ensures { λ r. ⌜ Written (fed desk (sampleOf sample) symbol (now (recent .entry)) (records n (now (numbers .entry)))) r (now (numbers .entry)) (now (numbers .exit)) ⌝ }
+{
+    let cell = 1 + (SYMBOLS * sample as usize + symbol as usize);
+    let mut key = desk * DESK_SPAN;
+    let mut weight = NEWEST;
+    let mut count = n;
+    let mut done: usize = 0;
+    while done <= recent.len() {
+        count = bump(numbers, count, key, cell);
+        key = longer(key, weight, recent, done);
+        weight = weight / 8;
+        done = done + 1;
+    }
+    count
+}
+
+// 1 where none of the first `n` records has a key, else 0.
+fn lacks(numbers: &[u32], n: usize, key: u32) -> usize
+    requires { ⌜ Standing n (now numbers) ⌝ }
+    ensures { λ r. ⌜ r ≡ one (not (held key (records n (now (numbers .entry))))) ⌝ }
+{
+    if holds(numbers, n, key) {
+        return 0;
+    }
+    1
+}
+
+// The key of a context that is longer by the recent symbol at a place: that symbol's weight, and 1 for the length.
+fn longer(key: u32, weight: u32, recent: &[u32], place: usize) -> u32
+    requires { ⌜ (place < length (now recent) → key + (getD (now recent) place 0 * weight + 1) < 2 ^ 32) ⌝ }
+    ensures { λ r. ⌜ (place < length (now (recent .entry)) → r ≡ key + (getD (now (recent .entry)) place 0 * weight + 1)) ⌝ }
+{
+    if place < recent.len() {
+        return key + (recent[place] * weight + 1);
+    }
+    key
 }
 
 // The eight numbers after a place.

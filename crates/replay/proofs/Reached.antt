@@ -18,7 +18,7 @@ use Rattle.replay.proofs.Reservations.{only-eight}
 use Rattle.replay.proofs.Own.{alone}
 
 module _ (R : Rules) where
-  asks-append : (ts us : List (Told R)) → asks R (ts ++ us) ≡ asks R ts ++ asks R us
+  pub asks-append : (ts us : List (Told R)) → asks R (ts ++ us) ≡ asks R ts ++ asks R us
   unfolding asks
   asks-append [] us = refl
   asks-append (t ∷ ts) us = go (t .act) (asks-append ts us)

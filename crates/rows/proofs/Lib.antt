@@ -2,3 +2,4 @@ pub mod Holding
 pub mod Ordering
 pub mod Walking
 pub mod Scoring
+pub mod Written

@@ -101,6 +101,5 @@ members-few A d t =
     most s = omega (arith, one (t shared s), one (t (own first) s), one (t (own second) s))
 
 -- within the limits of document 01
-pub members-limit : (A d : ℕ) (t : Triple) → A ≤ 8 → d ≤ 6 → length (members A d t) ≤ 898779
-unfolding strings
-members-limit A d t p q = omega (arith, members-few A d t, strings-mono A 8 d 6 p q)
+pub members-limit : (A d : ℕ) (t : Triple) → A ≤ mostSymbols → d ≤ deepest → length (members A d t) ≤ strings mostSymbols deepest * 3
+members-limit A d t p q = omega (arith, members-few A d t, strings-mono A mostSymbols d deepest p q)

@@ -6,11 +6,12 @@ use mathlib.Core.List.{List}
 use borrow.Author.Needs.{needs}
 use lib.ListN.{getD}
 use Rattle.numbers.specs.Limits.{mostSymbols, mostCounted}
-use Rattle.contexts.specs.Sitting.{eight}
+use Rattle.contexts.specs.Sitting.{eight, sumOf}
+use Rattle.contexts.proofs.Tables.{sum-eight}
 use Rattle.estimate.specs.Trees.{shared}
 use Rattle.estimate.specs.Recursion.{spread}
-use Rattle.estimate.specs.Table.{countsIn, sumOf}
-use Rattle.estimate.proofs.Tables.{sum-shared, sum-eight, spread-eight}
+use Rattle.estimate.specs.Table.{countsIn}
+use Rattle.estimate.proofs.Tables.{sum-shared, spread-eight}
 use Rattle.estimate.proofs.losses_of.Statement.{statement}
 use Rattle.estimate.proofs.losses_of.Tie as tie
 

@@ -1,12 +1,10 @@
 -- `records::counts_at` meets its contract. Assumes nothing.
-use mathlib.Core.Path.{_≡_, ap, ap₂, _∙_}
+use mathlib.Core.Path.{ap₂, _∙_}
 use mathlib.Core.List.{List, [], _∷_}
-use Prim.Native.Nat.{ℕ, _+_, _*_}
+use Prim.Native.Nat.{ℕ, _*_}
 use native.Mathlib.Omega.{arith}
 use native.Mathlib.Nat.{add-zero}
 use borrow.Author.Needs.{needs}
-use lib.ListN.{getD}
-use Rattle.contexts.specs.Sitting.{eight}
 use Rattle.records.specs.Records.{width}
 use Rattle.records.proofs.Cells.{record-cells}
 use Rattle.records.proofs.counts_at.Statement.{statement}

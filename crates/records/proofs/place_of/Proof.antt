@@ -1,5 +1,5 @@
 -- `records::place_of` meets its contract: the place lies from `low` to `high`. Assumes nothing.
-use Prim.Native.Nat.{ℕ, _≤_, _<_, _-_, _+_, _/_}
+use Prim.Native.Nat.{_≤_, _-_, _+_, _/_}
 use native.Mathlib.Omega.{arith}
 use Rattle.records.specs.Records.{records, keys}
 use Rattle.records.specs.Held.{rank}

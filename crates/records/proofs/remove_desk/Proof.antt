@@ -6,32 +6,34 @@ use borrow.Author.Needs.{needs}
 use Rattle.contexts.specs.Keys.{deskSpan}
 use Rattle.records.specs.Records.{records, keys}
 use Rattle.records.specs.Held.{rank}
-use Rattle.records.proofs.Rising.{rank-mono}
+use Rattle.records.proofs.Rising.{rank-mono, rank-same}
 use Rattle.records.proofs.Removing.{removed}
 use Rattle.records.proofs.remove_desk.Statement.{statement}
 use Rattle.records.proofs.remove_desk.Tie as tie
 
--- the next desk's first key stands no earlier
+-- the place of the next desk's first key, which stands no earlier
+next-at : (c : tie.After-place-of2) → (let x = c .before .before .before .before .before .args in
+    c .place-of2 .result ≡ rank ((x .desk + 1) * deskSpan) (keys (records (x .n) (x .numbers .now))))
+next-at c =
+    let x = c .before .before .before .before .before .args in
+    rank-same _ ((x .desk + 1) * deskSpan) (keys (records (x .n) (x .numbers .now))) (c .place-of2 .result) (c .place-of2 .ensures .at) (omega arith)
+
 in-order : (c : tie.After-place-of2) → c .before .before .place-of .result ≤ c .place-of2 .result
 in-order c =
     let x = c .before .before .before .before .before .args in
     let ks = keys (records (x .n) (x .numbers .now)) in
     let later = rank-mono (x .desk * deskSpan) ((x .desk + 1) * deskSpan) ks (omega arith) in
     let first : c .before .before .place-of .result ≡ rank (x .desk * deskSpan) ks = c .before .before .place-of .ensures .at in
-    let next : c .place-of2 .result ≡ rank ((x .desk + 1) * deskSpan) ks = c .place-of2 .ensures .at in
-    omega arith
+    omega (arith, next-at c)
 
-mul-place-of : tie.Need-mul-place-of
-mul-place-of c = search needs
+mul-least : tie.Need-mul-least
+mul-least c = search needs
+
+add-past : tie.Need-add-past
+add-past c = search needs
 
 place-of-requires : tie.Need-place-of-requires
 place-of-requires c κs = search needs
-
-add-place-of : tie.Need-add-place-of
-add-place-of c = search needs
-
-mul-place-of-2 : tie.Need-mul-place-of-2
-mul-place-of-2 c = search needs
 
 place-of-requires-2 : tie.Need-place-of-requires-2
 place-of-requires-2 c κs = search needs
@@ -76,17 +78,16 @@ returns c =
     let first = c .before .before .before .before .before .before .place-of in
     let next = c .before .before .before .before .place-of2 in
     let shifted = c .before .before .shift-down in
-    removed (x .desk) (x .n) (first .result) (next .result) (x .numbers .now) (start .pre .standing) (first .ensures .at) (next .ensures .at)
+    removed (x .desk) (x .n) (first .result) (next .result) (x .numbers .now) (start .pre .standing) (first .ensures .at) (next-at (c .before .before .before .before))
     (in-order (c .before .before .before .before)) (next .ensures .within) (shifted .last .0) (shifted .ensures)
 
 pub remove-desk-spec : {M : Type 1} → statement M
 remove-desk-spec =
     tie.close
     (tie.spec
-    mul-place-of
+    mul-least
+    add-past
     place-of-requires
-    add-place-of
-    mul-place-of-2
     place-of-requires-2
     sub-gone
     mul-from

@@ -1,6 +1,6 @@
 -- `records::shift_down` meets its contract: the first i numbers have been moved down. Assumes nothing.
 use mathlib.Core.Path.{_≡_, refl, ap, _∙_}
-use Prim.Native.Nat.{ℕ, _≤_, _-_}
+use Prim.Native.Nat.{_≤_, _-_}
 use native.Mathlib.Omega.{arith}
 use lib.ListN.{length, length-set}
 use Rattle.records.proofs.Shifting.{down, down-turn, down-end}

@@ -1,6 +1,6 @@
 -- `records::shift_up` meets its contract: the numbers from i on have been moved up. Assumes nothing.
 use mathlib.Core.Path.{_≡_, refl, ap, _∙_}
-use Prim.Native.Nat.{ℕ, _≤_}
+use Prim.Native.Nat.{_≤_}
 use native.Mathlib.Omega.{arith}
 use lib.ListN.{length, length-set}
 use Rattle.records.proofs.Shifting.{up, up-start, up-turn, up-end}

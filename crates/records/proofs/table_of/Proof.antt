@@ -1,11 +1,9 @@
 -- `records::table_of` meets its contract: the record at the key's place, or a blank one. Assumes nothing.
-use mathlib.Core.Path.{_≡_, sym, ap, _∙_}
-use mathlib.Core.List.{[]}
+use mathlib.Core.Path.{sym, ap, _∙_}
 use native.Mathlib.Omega.{arith}
 use borrow.Author.Needs.{needs}
-use lib.ListN.{getD}
-use Rattle.records.specs.Records.{width, records, lookup, blank}
-use Rattle.records.specs.Held.{recordAt, tableOf}
+use Rattle.records.specs.Records.{width, records}
+use Rattle.records.specs.Held.{tableOf}
 use Rattle.records.proofs.Parts.{part-at}
 use Rattle.records.proofs.Finding.{lookup-found, lookup-absent, held-lost}
 use Rattle.records.proofs.table_of.Statement.{statement}

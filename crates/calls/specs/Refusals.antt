@@ -1,0 +1,33 @@
+-- Document 01's number of each refusal, and what each answer of the code says in the room's machine. Assumes nothing.
+use Prim.Native.Nat.{ℕ}
+use Rattle.replay.specs.Table.{Outcome, refused, answered}
+use Rattle.rules.specs.Rules.{Answer, done, room}
+use Rattle.calls.specs.declared.Refusal.{Refusal}
+use Rattle.calls.specs.declared.Refusal.the-variants.{Unsound, NoSuchDesk, AlreadyOpen, NotOpen, OutsideLimits, BadReservation, NoRoom, NotOfSitting, SampleFull, PastReservation, SampleEmpty, SheetShort}
+use Rattle.calls.specs.declared.Verdict.{Verdict}
+use Rattle.calls.specs.declared.Verdict.the-variants as verdict
+use Rattle.calls.specs.declared.RoomLeft.{RoomLeft}
+use Rattle.calls.specs.declared.RoomLeft.the-variants as question
+
+abbrev pub refusalNumber : Refusal → ℕ
+refusalNumber Unsound = 1
+refusalNumber NoSuchDesk = 2
+refusalNumber AlreadyOpen = 3
+refusalNumber NotOpen = 4
+refusalNumber OutsideLimits = 5
+refusalNumber BadReservation = 6
+refusalNumber NoRoom = 7
+refusalNumber NotOfSitting = 8
+refusalNumber SampleFull = 9
+refusalNumber PastReservation = 10
+refusalNumber SampleEmpty = 11
+refusalNumber SheetShort = 12
+
+-- "answers only that it was done", or the refusal's number alone
+abbrev pub outcomeOf : Verdict → Outcome Answer
+outcomeOf verdict.Done = answered done
+outcomeOf (verdict.Refused why) = refused (refusalNumber why)
+
+abbrev pub roomOf : RoomLeft → Outcome Answer
+roomOf (question.Contexts n) = answered (room n)
+roomOf (question.Refused why) = refused (refusalNumber why)

@@ -1,0 +1,51 @@
+// What a call at a store answers: that it was done, or a refusal as a case of an enum.
+ghost use mathlib.Core.Path.{_≡_};
+ghost use Rattle.calls.specs.Refusals.{refusalNumber};
+
+// The refusals of document 01's table that a call at a store can get.
+pub enum Refusal {
+    Unsound,
+    NoSuchDesk,
+    AlreadyOpen,
+    NotOpen,
+    OutsideLimits,
+    BadReservation,
+    NoRoom,
+    NotOfSitting,
+    SampleFull,
+    PastReservation,
+    SampleEmpty,
+    SheetShort,
+}
+
+// The answer of an opening, a feed or a closing.
+pub enum Verdict {
+    Done,
+    Refused(Refusal),
+}
+
+// The answer of the room question.
+pub enum RoomLeft {
+    Contexts(u32),
+    Refused(Refusal),
+}
+
+// A refusal's number in document 01's table.
+pub fn number_of(why: Refusal) -> u32
+    ensures { λ r. ⌜ r ≡ refusalNumber why ⌝ }
+{
+    match why {
+        Refusal::Unsound => 1,
+        Refusal::NoSuchDesk => 2,
+        Refusal::AlreadyOpen => 3,
+        Refusal::NotOpen => 4,
+        Refusal::OutsideLimits => 5,
+        Refusal::BadReservation => 6,
+        Refusal::NoRoom => 7,
+        Refusal::NotOfSitting => 8,
+        Refusal::SampleFull => 9,
+        Refusal::PastReservation => 10,
+        Refusal::SampleEmpty => 11,
+        Refusal::SheetShort => 12,
+    }
+}

@@ -1,0 +1,6 @@
+pub mod Answers
+pub mod Quotients
+pub mod Shares
+pub mod Gaps
+pub mod Tables
+pub mod Examples

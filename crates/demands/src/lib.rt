@@ -1,0 +1,1 @@
+// The demands and the marked examples: statements and theorems about the crates below. No code.

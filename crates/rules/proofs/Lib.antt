@@ -1,0 +1,3 @@
+pub mod TrueCounts
+pub mod OwnReport
+pub mod Numbers

@@ -1,0 +1,5 @@
+pub mod Feed
+pub mod Report
+pub mod Question
+pub mod Rules
+pub mod Strings

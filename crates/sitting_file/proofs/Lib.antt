@@ -1,0 +1,12 @@
+pub mod Places
+pub mod Groups
+pub mod Stages
+pub mod Shortest
+pub mod Written
+pub mod AnswerTrue
+pub mod AnswerOnly
+pub mod Answers
+pub mod AcceptedFile
+pub mod Rewritten
+pub mod LongInput
+pub mod Examples

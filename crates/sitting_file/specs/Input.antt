@@ -1,0 +1,20 @@
+-- Input that is longer than any file of the format. Assumes nothing.
+use Prim.Native.Nat.{ℕ}
+use mathlib.Core.Path.{_≡_}
+use mathlib.Core.List.{List}
+use lib.ListN.{take}
+use Rattle.sitting_file.specs.Format.{readOf}
+use Rattle.sitting_file.specs.declared.Refusal.{Refusal}
+use Rattle.sitting_file.specs.declared.Refusal.the-variants.{EndsEarly}
+use Rattle.sitting_file.specs.declared.Reading.the-variants.{Refused}
+
+-- "The program reads standard input into 2,048 bytes"
+abbrev pub inputBytes : ℕ
+inputBytes = 2048
+
+-- "Longer input is judged on its first 2,048 bytes, which always show a fault": the same as the whole file's, and never 13
+pub record ShowsFault (file : List ℕ) (bytes : ℕ) : Type 0 where
+  pub why : Refusal
+  pub whole : readOf file ≡ Refused why
+  pub first : readOf (take bytes file) ≡ Refused why
+  pub not-early : why ≡ EndsEarly → ⊥

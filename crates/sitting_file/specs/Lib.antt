@@ -1,0 +1,4 @@
+pub mod Format
+pub mod Samples
+pub mod Verdict
+pub mod Input

@@ -1,0 +1,77 @@
+-- The counts of a sound store's meaning: N(s) is a record's total, and a sitting holds as many contexts as its desk has records.
+-- Assumes nothing.
+use mathlib.Core.Path.{_≡_, refl, sym, ap, ap₂, _∙_, subst}
+use mathlib.Core.Bool.{Bool, true, false, cond, _&&_}
+use mathlib.Core.List.{List, [], _∷_}
+use Prim.Native.Nat.{ℕ, _+_, _≤_, _<_}
+use native.Mathlib.Omega.{arith}
+use borrow.Author.Tests.{lt-ltb, le-ltb}
+use lib.Dec.{T, ltb, eqb→eq}
+use lib.ListN.{length, getD}
+use Rattle.numbers.specs.Limits.{mostSymbols, desks}
+use Rattle.numbers.specs.Sum.{one, sum}
+use Rattle.numbers.proofs.Tests.{left, right, of-true, is-true, is-false}
+use Rattle.numbers.proofs.Orders.{eq→eqb}
+use Rattle.numbers.proofs.Sums.{sum-cong, sum-zero, sum-past}
+use Rattle.contexts.specs.Context.{isContext}
+use Rattle.contexts.specs.Keys.{keyOf, deskOf, contextOf}
+use Rattle.contexts.specs.Sitting.{Sample, first, second, totalIn, isHeld, contextsHeld}
+use Rattle.contexts.proofs.KeyOrder.{deskOf-key}
+use Rattle.records.specs.Records.{key, keys, lookup}
+use Rattle.store.specs.Layout.{symbolsAt, depthAt, recordsIn, countIn, totalOf, keep, ofDesk}
+use Rattle.store.specs.Sound.{all, heldBy, keyOk, recordOk, soundb}
+use Rattle.store.specs.Plain.{Open, ContextAt, recordFor, totalAt}
+use Rattle.store.specs.Meaning.{sittingAt}
+use Rattle.store.proofs.Many.{all-at}
+use Rattle.store.proofs.Rising.{blank-total}
+use Rattle.store.proofs.Climbing.{KeyStands, key-stands, table-seen}
+use Rattle.store.proofs.Passing.{Passed, passed, record-key, record-table, desk-passed, context-within, context-counts}
+use Rattle.store.proofs.Keeping.{hasKey, lookup-lacks, lookup-has, keep-rises, keep-all, keep-has}
+use Rattle.store.proofs.Totalling.{total-within, total-keys}
+
+-- no count where there is no context
+pub total-outside : (s : List ℕ) (d : ℕ) (i : Sample) (c : List ℕ) → (ContextAt s d c → ⊥) → totalIn (sittingAt s d) i c ≡ 0
+total-outside s d i c n = sum-zero (symbolsAt s d) (λ a l. rw (is-false (isContext (symbolsAt s d) (depthAt s d) c) n))
+
+module _ (s : List ℕ) (h : Passed s) (d : ℕ) (o : Open s d) where
+  -- N(c) is the total in the record of c
+  pub total-context : (i : Sample) (c : List ℕ) → ContextAt s d c → totalIn (sittingAt s d) i c ≡ totalAt s d i c
+  total-context i c x =
+      sum-cong (symbolsAt s d) {g = countIn i (recordFor s d c)} (λ a l. rw (is-true (isContext (symbolsAt s d) (depthAt s d) c) x))
+      ∙ sym (sum-past (symbolsAt s d) mostSymbols (countIn i (recordFor s d c)) (desk-passed s h d o .most) (context-counts s h d o c x i .quiet))
+
+  own-desk : (c : List ℕ) → ContextAt s d c → T (ofDesk d (keyOf d c))
+  own-desk c x = eq→eqb (deskOf (keyOf d c)) d (deskOf-key d c (context-within s h d o c x))
+
+  -- a context is held where it has a record
+  held-is : (c : List ℕ) → ContextAt s d c → isHeld (sittingAt s d) c ≡ hasKey (keyOf d c) (keep (ofDesk d) (recordsIn s))
+  held-is c x =
+      ap₂ (λ (m n : ℕ). ltb 0 (m + n)) (total-context first c x) (total-context second c x)
+      ∙ go (hasKey (keyOf d c) (recordsIn s)) refl
+      ∙ sym (keep-has (ofDesk d) (keyOf d c) (recordsIn s) (own-desk c x))
+    where
+      go : (t : Bool) → hasKey (keyOf d c) (recordsIn s) ≡ t → ltb 0 (totalAt s d first c + totalAt s d second c) ≡ hasKey (keyOf d c) (recordsIn s)
+      go true e =
+          let t = lookup-has (recordOk s (recordsIn s)) (keyOf d c) (recordsIn s) (h .each) (of-true _ e) in
+          rw e (lt-ltb 0 _ (table-seen s (recordFor s d c) (record-table s (recordsIn s) (recordFor s d c) t)))
+      go false e =
+          let b = lookup-lacks (keyOf d c) (recordsIn s) e in
+          rw e (le-ltb 0 (totalAt s d first c + totalAt s d second c) (omega (arith, ap (totalOf first) b, ap (totalOf second) b, blank-total first (keyOf d c), blank-total second (keyOf d c))))
+
+  -- a record of the desk is that of a context
+  own-context : (j : ℕ) → j < length (keep (ofDesk d) (recordsIn s)) → (c : List ℕ) × ContextAt s d c × (key (getD (keep (ofDesk d) (recordsIn s)) j []) ≡ keyOf d c)
+  own-context j l =
+      let r = getD (keep (ofDesk d) (recordsIn s)) j [] in
+      let t = all-at (λ x. recordOk s (recordsIn s) x && ofDesk d (key x)) (keep (ofDesk d) (recordsIn s)) j [] (keep-all (ofDesk d) (recordOk s (recordsIn s)) (recordsIn s) (h .each)) l in
+      let g = key-stands s (key r) (record-key s (recordsIn s) r (left (recordOk s (recordsIn s) r) _ t)) in
+      let e = eqb→eq (deskOf (key r)) d (right (recordOk s (recordsIn s) r) _ t) in
+      (contextOf (key r), subst (λ (m : ℕ). ContextAt s m (contextOf (key r))) e (g .context), sym (g .back) ∙ ap (λ (m : ℕ). keyOf m (contextOf (key r))) e)
+
+  pub held-kept : contextsHeld (sittingAt s d) ≡ heldBy d (recordsIn s)
+  held-kept =
+      total-within (symbolsAt s d) (depthAt s d) (λ c x. ap one (held-is c x))
+      ∙ total-keys (symbolsAt s d) (depthAt s d) d (desk-passed s h d o .most) (desk-passed s h d o .depth) 0 (keep (ofDesk d) (recordsIn s)) (keep-rises (ofDesk d) 0 (recordsIn s) (h .up)) own-context
+
+-- THEOREM. In a sound store the sitting at an open desk holds as many contexts as the desk has records
+pub held-records : (s : List ℕ) → soundb s ≡ true → (d : ℕ) → Open s d → contextsHeld (sittingAt s d) ≡ heldBy d (recordsIn s)
+held-records s e = held-kept s (passed s e)

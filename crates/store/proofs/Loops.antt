@@ -1,0 +1,119 @@
+-- A turn of each loop of the soundness test, as the code asks for it. Assumes nothing.
+use mathlib.Core.Path.{_≡_, refl, sym, ap, _∙_}
+use mathlib.Core.Bool.{Bool, true, false, _&&_, _||_, or-true, and-true}
+use mathlib.Core.List.{List, [], _∷_}
+use Prim.Native.Nat.{ℕ, zero, suc, _+_, _-_, _*_, _/_, _≤_, _<_}
+use native.Mathlib.Numerals.{add-one}
+use native.Mathlib.Nat.{div-mul-le-self, div-le-self, mul-le-mul-right, le-trans}
+use native.Mathlib.Omega.{arith}
+use borrow.Author.Tests.{ne-eqb, eqb-true, eqb-false, lt-ltb, le-ltb}
+use lib.Dec.{eqb, ltb}
+use lib.ListN.{length, take, drop, getD, length-drop}
+use lib.Seq.{drop-cons, drop-length, getD-take, getD-drop, length-take-le}
+use Rattle.numbers.specs.Limits.{mostSymbols}
+use Rattle.numbers.specs.Sum.{sum}
+use Rattle.store.specs.Sound.{every, all, quietFrom}
+
+-- ---- sums and tests of the numbers below a bound
+
+pub sum-more : (n : ℕ) (f : ℕ → ℕ) → sum (n + 1) f ≡ sum n f + f n
+unfolding sum
+sum-more n f = ap (λ (m : ℕ). sum m f) (add-one n)
+
+pub sum-none : (f : ℕ → ℕ) → sum 0 f ≡ 0
+unfolding sum
+sum-none f = refl
+
+pub every-more : (n : ℕ) (f : ℕ → Bool) → every (n + 1) f ≡ every n f && f n
+unfolding every
+every-more n f = ap (λ (m : ℕ). every m f) (add-one n)
+
+pub every-none : (f : ℕ → Bool) → every 0 f ≡ true
+unfolding every
+every-none f = refl
+
+-- ---- a list, of which the rest decides
+
+pub cons-at : {X : Type 0} (l : List X) (i : ℕ) (d : X) → i < length l → drop i l ≡ getD l i d ∷ drop (i + 1) l
+cons-at l i d h = rw add-one (drop-cons l i d h)
+
+pub none-at : {X : Type 0} (l : List X) (i : ℕ) → i ≡ length l → drop i l ≡ []
+none-at l i e = rw e (drop-length l)
+
+pub all-step : {X : Type 0} (f : X → Bool) (l : List X) (i : ℕ) (d : X) → i < length l → all f (drop i l) ≡ f (getD l i d) && all f (drop (i + 1) l)
+unfolding all
+all-step f l i d h = ap (all f) (cons-at l i d h)
+
+pub all-end : {X : Type 0} (f : X → Bool) (l : List X) (i : ℕ) → i ≡ length l → all f (drop i l) ≡ true
+unfolding all
+all-end f l i e = ap (all f) (none-at l i e)
+
+-- ---- the eight counts from a place of a record
+
+abbrev pub eightFrom : ℕ → List ℕ → List ℕ
+eightFrom from r = take mostSymbols (drop from r)
+
+pub eight-at : (from : ℕ) (r : List ℕ) (i : ℕ) → i < mostSymbols → getD (eightFrom from r) i 0 ≡ getD r (from + i) 0
+eight-at from r i g = getD-take mostSymbols (drop from r) i 0 g ∙ getD-drop from r i 0
+
+-- the sum so far
+pub record Summing (r : List ℕ) (from seen i : ℕ) : Type 0 where
+  pub place : i ≤ mostSymbols
+  pub long : from + mostSymbols ≤ length r
+  pub small : seen ≤ 4294967295 * i
+  pub is : seen ≡ sum i (λ a. getD (eightFrom from r) a 0)
+
+pub summing-start : (r : List ℕ) (from : ℕ) → from + mostSymbols ≤ length r → Summing r from 0 0
+summing-start r from h = record { place = omega arith; long = h; small = omega arith; is = sym (sum-none (λ a. getD (eightFrom from r) a 0)) }
+
+pub summing-more : (r : List ℕ) (from seen i : ℕ) → Summing r from seen i → i < mostSymbols → getD r (from + i) 0 ≤ 4294967295 → Summing r from (seen + getD r (from + i) 0) (i + 1)
+summing-more r from seen i g h b = record {
+  place = omega arith;
+  long = g .long;
+  small = omega (arith, g .small);
+  is = omega (arith, g .is, sum-more i (λ a. getD (eightFrom from r) a 0), eight-at from r i h);
+}
+
+-- the sum of those from symbol a up, so far: 0 exactly where they are all 0
+abbrev pub quietAt : ℕ → List ℕ → ℕ → Bool
+quietAt a part x = ltb x a || eqb (getD part x 0) 0
+
+pub record Quiet (r : List ℕ) (from a seen i : ℕ) : Type 0 where
+  pub place : i ≤ mostSymbols
+  pub long : from + mostSymbols ≤ length r
+  pub small : seen ≤ 4294967295 * i
+  pub is : eqb seen 0 ≡ every i (quietAt a (eightFrom from r))
+
+pub quiet-start : (r : List ℕ) (from a : ℕ) → from + mostSymbols ≤ length r → Quiet r from a 0 0
+quiet-start r from a h = record { place = omega arith; long = h; small = omega arith; is = sym (every-none (quietAt a (eightFrom from r))) }
+
+zero-both : (x y : ℕ) → eqb (x + y) 0 ≡ eqb x 0 && eqb y 0
+zero-both zero y = ap (λ (m : ℕ). eqb m 0) (let e : 0 + y ≡ y = omega arith in e)
+zero-both (suc x) y = rw (ne-eqb (suc x) 0 (λ e. omega arith)) (ne-eqb (suc x + y) 0 (λ e. omega arith))
+
+module _ (r : List ℕ) (from a seen i : ℕ) (g : Quiet r from a seen i) (h : i < mostSymbols) where
+  pub quiet-add : a ≤ i → getD r (from + i) 0 ≤ 4294967295 → Quiet r from a (seen + getD r (from + i) 0) (i + 1)
+  quiet-add u b = record {
+    place = omega arith;
+    long = g .long;
+    small = omega (arith, g .small);
+    is =
+        zero-both seen (getD r (from + i) 0)
+        ∙ rw (g .is)
+        (sym (every-more i (quietAt a (eightFrom from r)) ∙ rw (le-ltb i a u, eight-at from r i h)));
+  }
+
+  pub quiet-skip : i < a → Quiet r from a seen (i + 1)
+  quiet-skip u = record {
+    place = omega arith;
+    long = g .long;
+    small = omega (arith, g .small);
+    is = g .is ∙ sym (every-more i (quietAt a (eightFrom from r)) ∙ rw (lt-ltb i a u) (and-true (every i (quietAt a (eightFrom from r)))));
+  }
+
+-- a number rounded down to a multiple of 8 · w
+pub round-le : (k w : ℕ) → k / w / 8 * 8 * w ≤ k
+round-le k w = le-trans (mul-le-mul-right w (div-mul-le-self (k / w) 8)) (div-mul-le-self k w)
+
+pub round-le′ : (k w : ℕ) → k / w / 8 * 8 ≤ k
+round-le′ k w = le-trans (div-mul-le-self (k / w) 8) (div-le-self k w)

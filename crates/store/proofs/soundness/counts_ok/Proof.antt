@@ -1,0 +1,34 @@
+use mathlib.Core.Path.{_≡_, sym, _∙_}
+use mathlib.Core.Bool.{true, false}
+use native.Mathlib.Omega.{arith}
+use Rattle.store.specs.Layout.{eightSum}
+use Rattle.store.specs.Sound.{quietFrom, countsOk}
+use Rattle.store.proofs.Loops.{eightFrom}
+use borrow.Author.Needs.{needs}
+use Rattle.store.proofs.soundness.counts_ok.Statement.{statement}
+use Rattle.store.proofs.soundness.counts_ok.Tie as tie
+use Rattle.store.proofs.soundness.counts_ok.Reads as reads
+use Rattle.store.proofs.soundness.counts_ok.Lts as lts
+use Rattle.store.proofs.soundness.quiet.Reads as quiet-reads
+
+quiet-requires : tie.Need-quiet-requires
+quiet-requires c κs = search needs
+
+returns : tie.Need-returns
+unfolding countsOk
+returns c =
+    let args = c .before .before .before .args in
+    let part = eightFrom (args .from) (args .held .now) in
+    let none : quietFrom (args .a) part ≡ true = sym (c .before .quiet .ensures) ∙ c .if1 .taken in
+    let is : args .seen ≡ eightSum part = c .before .before .before .pre .1 in
+    rw (none, ← is)
+
+returns-2 : tie.Need-returns-2
+unfolding countsOk
+returns-2 c =
+    let args = c .before .before .before .args in
+    let some : quietFrom (args .a) (eightFrom (args .from) (args .held .now)) ≡ false = sym (c .before .quiet .ensures) ∙ c .if1 .left in
+    rw some
+
+pub counts-ok-spec : {M : Type 1} → statement M
+counts-ok-spec = tie.close (tie.spec quiet-requires returns returns-2)

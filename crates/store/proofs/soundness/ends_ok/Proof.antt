@@ -1,0 +1,26 @@
+use mathlib.Core.Path.{ap}
+use Prim.Native.Nat.{ℕ, _%_}
+use lib.Dec.{eqb}
+use Rattle.store.specs.Walk.{endsOk}
+use borrow.Author.Needs.{needs}
+use Rattle.store.proofs.soundness.ends_ok.Statement.{statement}
+use Rattle.store.proofs.soundness.ends_ok.Tie as tie
+use Rattle.store.proofs.soundness.ends_ok.Reads as reads
+use Rattle.store.proofs.soundness.ends_ok.Lts as lts
+use Rattle.store.proofs.soundness.weight_of.Reads as weight-of-reads
+
+cast-weight-of : tie.Need-cast-weight-of
+cast-weight-of c = search needs
+
+weight-of-requires : tie.Need-weight-of-requires
+weight-of-requires c κs = search needs
+
+rem-result : tie.Need-rem-result
+rem-result c = search needs
+
+returns : tie.Need-returns
+unfolding endsOk
+returns c = ap (λ (w : ℕ). eqb (c .before .args .key % w) (c .before .args .key % 8)) (c .weight-of .ensures .0)
+
+pub ends-ok-spec : {M : Type 1} → statement M
+ends-ok-spec = tie.close (tie.spec cast-weight-of weight-of-requires rem-result returns)

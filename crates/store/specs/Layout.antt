@@ -1,0 +1,93 @@
+-- The numbers of a store: a header of 2,048 numbers, then the records of all desks. Assumes nothing.
+use mathlib.Core.Bool.{Bool, cond}
+use mathlib.Core.List.{List, [], _∷_}
+use Prim.Native.Nat.{ℕ, _+_, _*_}
+use lib.ListN.{take, drop, getD}
+use lib.Dec.{eqb}
+use Rattle.numbers.specs.Limits.{mostSymbols, deepest}
+use Rattle.numbers.specs.Sum.{sum}
+use Rattle.contexts.specs.Keys.{deskOf}
+use Rattle.contexts.specs.Sitting.{Sample, first, second}
+use Rattle.records.specs.Records.{width, records, key, countsOf}
+
+-- how many numbers the header has
+abbrev pub headerSize : ℕ
+headerSize = 2048
+
+-- "Making a store lends at least 2,048 + 24·K numbers"
+abbrev pub storeSize : ℕ → ℕ
+storeSize K = headerSize + width * K
+
+-- ---- the header
+
+-- K
+abbrev pub room : List ℕ → ℕ
+room s = getD s 0 0
+
+-- the number of records in use
+abbrev pub used : List ℕ → ℕ
+used s = getD s 1 0
+
+-- where the numbers of a desk begin; each desk has 32
+abbrev pub deskStart : ℕ → ℕ
+deskStart d = 16 + 32 * d
+
+abbrev pub field : List ℕ → ℕ → ℕ → ℕ
+field s d f = getD s (deskStart d + f) 0
+
+-- 1 is open, anything else closed
+abbrev pub isOpen : List ℕ → ℕ → Bool
+isOpen s d = eqb (field s d 0) 1
+
+-- A, D and the reservation
+abbrev pub symbolsAt : List ℕ → ℕ → ℕ
+symbolsAt s d = field s d 1
+
+abbrev pub depthAt : List ℕ → ℕ → ℕ
+depthAt s d = field s d 2
+
+abbrev pub reserveAt : List ℕ → ℕ → ℕ
+reserveAt s d = field s d 3
+
+-- n and m
+abbrev pub sizeField : Sample → ℕ
+sizeField first = 4
+sizeField second = 5
+
+abbrev pub sizeAt : List ℕ → ℕ → Sample → ℕ
+sizeAt s d i = field s d (sizeField i)
+
+-- where a sample's six recent symbols begin, the most recent first
+abbrev pub recentField : Sample → ℕ
+recentField first = 6
+recentField second = 12
+
+abbrev pub slotsAt : List ℕ → ℕ → Sample → List ℕ
+slotsAt s d i = take deepest (drop (deskStart d + recentField i) s)
+
+-- ---- the records
+
+-- the records in use, those of all desks, in the order of their keys
+unfoldable pub recordsIn : List ℕ → List (List ℕ)
+recordsIn s = records (used s) (drop headerSize s)
+
+-- a record's count of a symbol in a sample
+abbrev pub countIn : Sample → List ℕ → ℕ → ℕ
+countIn i r a = getD (countsOf i r) a 0
+
+-- the sum of eight counts
+abbrev pub eightSum : List ℕ → ℕ
+eightSum part = sum mostSymbols (λ a. getD part a 0)
+
+-- N(s) of a record in a sample
+abbrev pub totalOf : Sample → List ℕ → ℕ
+totalOf i r = eightSum (countsOf i r)
+
+-- the records whose key passes a test
+unfoldable pub keep : (ℕ → Bool) → List (List ℕ) → List (List ℕ)
+keep p [] = []
+keep p (r ∷ rs) = cond (p (key r)) (r ∷ keep p rs) (keep p rs)
+
+-- a key is a desk's
+abbrev pub ofDesk : ℕ → ℕ → Bool
+ofDesk d k = eqb (deskOf k) d

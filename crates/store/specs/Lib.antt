@@ -1,0 +1,5 @@
+pub mod Layout
+pub mod Sound
+pub mod Walk
+pub mod Plain
+pub mod Meaning

@@ -1,0 +1,95 @@
+-- The same test of the records as one pass computes it: a key by its digits, and a parent by a mark at its length. Assumes nothing.
+use mathlib.Core.Path.{_≡_}
+use mathlib.Core.Bool.{Bool, true, cond, _&&_, _||_}
+use mathlib.Core.List.{List, [], _∷_}
+use Prim.Native.Nat.{ℕ, _+_, _-_, _*_, _/_, _%_, _^_, _≤_}
+use lib.ListN.{length, getD, set, replicate}
+use lib.Dec.{leb, ltb, eqb}
+use Rattle.numbers.specs.Limits.{mostSymbols, deepest, desks}
+use Rattle.contexts.specs.Keys.{deskOf, deskSpan}
+use Rattle.contexts.specs.Sitting.{Sample, first, second}
+use Rattle.records.specs.Records.{width, key}
+use Rattle.store.specs.Layout.{isOpen, symbolsAt, depthAt, totalOf}
+use Rattle.store.specs.Sound.{every, tableOk, deskTest, deskOk}
+
+-- ---- a key's digits
+
+-- the length is the lowest octal digit
+abbrev pub lenOf : ℕ → ℕ
+lenOf k = k % 8
+
+-- what the oldest of l symbols weighs in a key
+unfoldable pub weight : ℕ → ℕ
+weight l = 8 ^ (7 - l)
+
+-- the oldest symbol is below A. The newer ones are those of the parent, whose record has its own test
+unfoldable pub oldestOk : ℕ → ℕ → Bool
+oldestOk A k = ltb (k % deskSpan / weight (lenOf k) % 8) A
+
+-- nothing stands past the length
+unfoldable pub endsOk : ℕ → Bool
+endsOk k = eqb (k % weight (lenOf k)) (lenOf k)
+
+-- one more than the parent's key; 0 for the empty context
+unfoldable pub upMark : ℕ → ℕ
+upMark k = k / weight (lenOf k) / 8 * 8 * weight (lenOf k) + lenOf k
+
+unfoldable pub keyFits : List ℕ → ℕ → Bool
+keyFits s k =
+    ltb (deskOf k) desks
+    && (isOpen s (deskOf k)
+    && (leb (lenOf k) (depthAt s (deskOf k))
+    && (oldestOk (symbolsAt s (deskOf k)) k
+    && endsOk k)))
+
+-- a record by itself
+unfoldable pub ownOk : List ℕ → List ℕ → Bool
+ownOk s r = keyFits s (key r) && tableOk s r
+
+-- a record with what its samples have counted of it, as the pass hands it on; the sums of eight numbers of 32 bits
+abbrev pub largestSum : ℕ
+largestSum = 34359738360
+
+pub record Summed (r : List ℕ) (x y : ℕ) : Type 0 where
+  pub long : width ≤ length r
+  pub in-first : x ≡ totalOf first r
+  pub in-second : y ≡ totalOf second r
+  pub small-first : x ≤ largestSum
+  pub small-second : y ≤ largestSum
+
+-- ---- marks
+
+-- the mark of a key in a sample that has x counts of it: one more than the key, where there are some
+unfoldable pub marked : ℕ → ℕ → ℕ
+marked k x = cond (ltb 0 x) (k + 1) 0
+
+-- where there are counts, the mark is the parent's
+unfoldable pub markOk : ℕ → ℕ → ℕ → Bool
+markOk x mark up = eqb x 0 || eqb mark up
+
+-- one record's turn, with the least key allowed and the marks at the record's length
+unfoldable pub stepOk : List ℕ → ℕ → ℕ → ℕ → List ℕ → Bool
+stepOk s lo p q r =
+    leb lo (key r) && (ownOk s r && (markOk (totalOf first r) p (upMark (key r)) && markOk (totalOf second r) q (upMark (key r))))
+
+-- a sample's marks after a record: place l + 1 has the last record of length l
+abbrev pub after : Sample → List ℕ → List ℕ → List ℕ
+after i r p = set p (lenOf (key r) + 1) (marked (key r) (totalOf i r))
+
+unfoldable pub walk : List ℕ → ℕ → List ℕ → List ℕ → List (List ℕ) → Bool
+walk s lo p q [] = true
+walk s lo p q (r ∷ rs) =
+    stepOk s lo (getD p (lenOf (key r)) 0) (getD q (lenOf (key r)) 0) r
+    && walk s (key r + 1) (after first r p) (after second r q) rs
+
+-- no marks
+abbrev pub start : List ℕ
+start = replicate 9 0
+
+-- a desk's test, by a tally of its records
+abbrev pub tallyOk : List ℕ → List ℕ → ℕ → Bool
+tallyOk s tally d = deskTest s d (getD tally d 0)
+
+-- the pass
+unfoldable pub passb : List ℕ → List (List ℕ) → Bool
+passb s rs = walk s 0 start start rs && every desks (deskOk s rs)

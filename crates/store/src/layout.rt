@@ -1,0 +1,68 @@
+// Where the numbers of a store stand, and document 01's limits.
+ghost use mathlib.Core.Path.{_≡_};
+ghost use Prim.Native.Nat.{_≤_, _<_};
+ghost use lib.ListN.{length};
+ghost use Rattle.numbers.specs.Limits.{desks};
+ghost use Rattle.store.specs.Layout.{headerSize, field};
+
+pub const FEWEST_SYMBOLS: u32 = 2;
+
+pub const MOST_SYMBOLS: u32 = 8;
+
+pub const DEEPEST: u32 = 6;
+
+pub const LONGEST: u32 = 512;
+
+pub const DESKS: usize = 8;
+
+pub const MOST_ROOM: usize = 4096;
+
+// The header, and in it K and the number of records in use.
+pub const HEADER: usize = 2048;
+
+pub const ROOM: usize = 0;
+
+pub const USED: usize = 1;
+
+// A desk's numbers: open or not, A, D, the reservation, the lengths, the recent symbols.
+pub const FIRST_DESK: usize = 16;
+
+pub const DESK_SIZE: usize = 32;
+
+pub const OPEN: usize = 0;
+
+pub const SYMBOLS: usize = 1;
+
+pub const DEPTH: usize = 2;
+
+pub const RESERVE: usize = 3;
+
+pub const SIZE_FIRST: usize = 4;
+
+pub const SIZE_SECOND: usize = 5;
+
+pub const RECENT_FIRST: usize = 6;
+
+pub const RECENT_SECOND: usize = 12;
+
+pub const SLOTS: usize = 6;
+
+// A record: its width, how many counts a sample has, and where each sample's begin. Its key is the first number.
+pub const WIDTH: usize = 24;
+
+pub const COUNTS: usize = 8;
+
+pub const COUNTS_FIRST: usize = 1;
+
+pub const COUNTS_SECOND: usize = 9;
+
+// How many keys a desk has.
+pub const DESK_SPAN: u32 = 2097152;
+
+// One of a desk's numbers.
+pub fn field_at(store: &[u32], desk: usize, number: usize) -> u32
+    requires { ⌜ (headerSize ≤ length (now store)) × (desk < desks) × (number < 32) ⌝ }
+    ensures { λ r. ⌜ r ≡ field (now (store .entry)) desk number ⌝ }
+{
+    store[FIRST_DESK + DESK_SIZE * desk + number]
+}

@@ -1,0 +1,105 @@
+"""Runs of the built programs, compared with the reference."""
+
+import subprocess
+from pathlib import Path
+
+from reference import program
+from reference.difference import Difference, demand_equal
+from reference.inputs import damaged_file, drawn_file, fixed_files
+from reference.replay import CLOSING_QUESTIONS, replay_of
+from reference.script import SCRIPT_BYTES, UNKNOWN, Player, answer_kind, parse
+from reference.walks import drawn_walk, every_length, spoilt_walk
+
+LONGEST_RUN = 120  # seconds
+SCRIPTS = Path(__file__).parent / "scripts"
+
+
+class Built:
+    """A built program: takes one input a run at standard input, prints its answer and ends with 0."""
+
+    def __init__(self, path):
+        self.path = path
+
+    def output(self, given, shown):
+        """What it prints; `shown` is the input as a text, for a run that goes wrong."""
+        try:
+            run = subprocess.run([self.path], input=given, capture_output=True, timeout=LONGEST_RUN)
+        except subprocess.TimeoutExpired:
+            raise Difference("no end of the run", shown, after=f"{LONGEST_RUN} seconds")
+        if run.returncode != 0:
+            raise Difference("exit status", shown, built=run.returncode, errors=run.stderr)
+        return run.stdout.decode("ascii", "backslashreplace")
+
+
+class BuiltProgram(Built):
+    """The program `sitting`."""
+
+    def compare_fixed(self, tally):
+        """The files at the limits and at each reading of the file rules."""
+        for file in fixed_files():
+            self.compare(file, tally)
+
+    def compare_drawn(self, random, tally):
+        """One whole or damaged file."""
+        self.compare(random.choice([drawn_file, damaged_file])(random), tally)
+
+    def compare(self, file, tally):
+        expected = program.output(file)
+        demand_equal("program", file.hex(" "), reference=expected, built=self.output(file, file.hex(" ")))
+        kind = expected.strip() if expected.startswith("refused") else "report printed"
+        tally["program: files", kind] += 1
+
+
+class BuiltScripts(Built):
+    """The player of scripts."""
+
+    def compare_fixed(self, tally):
+        """The scripts kept beside this program: document 01's examples, limits and refusals; every length."""
+        for path in sorted(SCRIPTS.glob("*.script")):
+            calls = parse(path.read_text())
+            player = Player()
+            self.compare([(step, player.play(step)) for step in calls], tally)
+        self.compare(every_length().steps, tally)
+
+    def compare_drawn(self, random, tally):
+        """A run of walks one after another, as many as a script may hold, each from its own making."""
+        steps, length = [], 0
+        walk = drawn_walk(random, unmade=True)
+        while length + len(walk.text()) <= SCRIPT_BYTES:
+            steps += walk.steps
+            length += len(walk.text())
+            walk = spoilt_walk(random) if random.random() < 0.2 else drawn_walk(random)
+        self.compare(steps, tally)
+
+    def compare_replay(self, random, tally):
+        """Demand 3: a walk, and its accepted calls sitting by sitting on a new store."""
+        walk = drawn_walk(random, remake=False)
+        replay = replay_of(walk)
+        closing = [(question, walk.player.play(question)) for question in CLOSING_QUESTIONS]
+        if len(walk.text()) < SCRIPT_BYTES - 1000:
+            self.compare(walk.steps + closing, tally)
+            self.compare(replay + closing, tally)
+            tally["scripts: walks and their replay sitting by sitting", ""] += 1
+
+    def compare(self, steps, tally):
+        """Plays the steps' calls in one run and compares each answer."""
+        text = "".join(step.line() + "\n" for step, _ in steps)
+        answers = answers_of(self.output(text.encode(), text))
+        demand_equal("number of answers", text, reference=len(steps), built=len(answers))
+        for place, ((step, expected), given) in enumerate(zip(steps, answers)):
+            if expected != [UNKNOWN]:
+                what = f"answer {place} (from 0), to the call {step.line()}"
+                demand_equal(what, text, reference="\n".join(expected), built="\n".join(given))
+            tally[f"scripts: {step.name}", answer_kind(expected)] += 1
+        tally["scripts: runs", ""] += 1
+
+
+def answers_of(output):
+    """The printed lines, call by call: rows and `outside` belong to the report before them."""
+    answers = []
+    for line in output.splitlines():
+        if answers and (line[:1].isdigit() or line.startswith("outside")):
+            answers[-1].append(line)
+        else:
+            answers.append([line])
+    return answers

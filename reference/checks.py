@@ -1,0 +1,172 @@
+"""Comparisons that need no built program: two ways of the reference to one answer.
+
+Each function draws one case from `random`, raises a Difference where the ways part, and adds to
+the tally what it compared.
+"""
+
+from reference.answers import Refused, Shape
+from reference.contexts import strings_up_to
+from reference.counts import UNSEEN, N, counts_by_place, total
+from reference.difference import Difference, demand_equal
+from reference.estimate import Recursion, Scale
+from reference.inputs import damaged_file, drawn_sample, drawn_sitting
+from reference.limits import ALPHABETS, DEPTHS
+from reference.logarithm import L, follows_rule
+from reference.program import INPUT_BYTES
+from reference.replay import CLOSING_QUESTIONS, replay_of
+from reference.rows import rows_of
+from reference.script import Player, answer_kind
+from reference.sitting_file import read, samples_of, write
+from reference.store import OpenSitting
+from reference.triples import best_triples, first_by_ties, is_admissible
+from reference.walks import drawn_walk
+
+# Where all admissible triples can be gone through: A and D.
+ENUMERATED = [(2, 0), (2, 1), (2, 2), (2, 2), (2, 3), (3, 0), (3, 1), (3, 2)] + [(A, 1) for A in range(4, 9)]
+WHOLE_TREE_STRINGS = 1000
+
+
+def check_logarithm(random, tally):
+    """The rule at one n, which L need not have been asked before."""
+    n = random.randrange(1, 1025)
+    if not follows_rule(n, L(n)):
+        raise Difference("logarithm", n, L=L(n))
+    tally["logarithm: values held to the rule", ""] += 1
+
+
+def check_counts(random, tally):
+    """N(s,a) as it is worded against the counts taken place by place, for every string up to a depth."""
+    A, D = random.choice([(2, 4), (3, 3), (4, 2), (5, 2), (8, 1)])
+    sample = drawn_sample(random, A, random.randrange(60))
+    counts = counts_by_place(sample, D)
+    for s in strings_up_to(A, D):
+        worded = tuple(N(sample, s, a) for a in range(8))
+        demand_equal("counts", (sample, s), worded=worded, by_place=counts.get(s, UNSEEN))
+        tally["counts: contexts, N(s,a) as worded against place by place", ""] += 1
+
+
+def check_held(random, tally):
+    """The contexts held, renewed feed by feed, against the strings with N(s) > 0 in either sample."""
+    A, D = random.choice([(2, 4), (3, 3), (4, 2), (8, 1)])
+    sitting = OpenSitting(A, D, 4096)
+    for _ in range(random.randrange(50)):
+        sample, symbol = random.randrange(2), random.randrange(A)
+        sitting.held = sitting.held_with(sample, symbol)
+        sitting.samples[sample].append(symbol)
+    seen = {s for s in strings_up_to(A, D) if any(total(tuple(sample), s, A) for sample in sitting.samples)}
+    demand_equal("contexts held", sitting.value(), worded=seen, by_feeds=sitting.held)
+    tally["contexts held: sittings, feed by feed against N(s) > 0", ""] += 1
+
+
+def check_enumeration(random, tally):
+    """The best of all admissible triples, by the tie rules, against the recursion's triple."""
+    sitting = drawn_sitting(random, ENUMERATED)
+    label = "enumeration against recursion: sittings"
+    compare_best(Scale(sitting), sitting, tally, label, whole=random.random() < 0.5)
+
+
+class DrawnScale:
+    """Few different worths, drawn for each context: most best scores are tied."""
+
+    def __init__(self, random, A, D):
+        self.A, self.D = A, D
+        least = random.choice([-3, -2, -1])
+        self.worths = {(kind, s): random.randint(least, 0) for kind in range(3) for s in strings_up_to(A, D)}
+
+    def worth(self, kind, s):
+        return self.worths[kind, s]
+
+    def score(self, triple):
+        return sum(self.worth(kind, s) for kind in range(3) for s in triple[kind])
+
+
+def check_ties(random, tally):
+    """The same over worths that are drawn, so that the tie rules decide nearly everywhere."""
+    scale = DrawnScale(random, *random.choice(ENUMERATED))
+    compare_best(scale, scale.worths, tally, "enumeration against recursion: drawn worths", whole=True)
+
+
+def compare_best(scale, asked, tally, label, whole):
+    best, triples = best_triples(scale)
+    recursion = Recursion(scale, whole)
+    triple = recursion.triple()
+    scores = {"enumeration": best, "recursion": recursion.joint(())[0], "triple": scale.score(triple)}
+    demand_equal("best score", asked, **scores)
+    if not is_admissible(triple, scale.A):
+        raise Difference("not admissible", asked, recursion=triple)
+    demand_equal("tie rules", asked, enumeration=first_by_ties(triples, scale.A, scale.D), recursion=triple)
+    tally[label, "one best triple" if len(triples) == 1 else "several best triples"] += 1
+
+
+def check_whole_tree(random, tally):
+    """The recursion over every string up to D against the one that weighs unseen strings by length."""
+    shapes = [(A, D) for A in ALPHABETS for D in DEPTHS if A**D <= WHOLE_TREE_STRINGS]
+    sitting = drawn_sitting(random, shapes)
+    scale = Scale(sitting)
+    rows = [rows_of(scale, Recursion(scale, whole).triple()) for whole in (True, False)]
+    demand_equal("whole tree", sitting, every_string=rows[0], unseen_by_length=rows[1])
+    tally["whole tree against unseen strings by length: sittings", ""] += 1
+
+
+def check_written(random, tally):
+    """A file that was written is read back; each part of it that ends sooner gets 13, and more bytes 16."""
+    sitting = drawn_sitting(random)
+    n, m = map(len, sitting.samples)
+    file = write(sitting.A, sitting.D, *sitting.samples)
+    shape = Shape(sitting.A, sitting.D, n, m)
+    demand_equal("written file", file.hex(), written=shape, read=read(file))
+    demand_equal("written symbols", file.hex(), written=sitting.samples, read=samples_of(file, shape))
+    cut = random.randrange(len(file))
+    demand_equal("file cut short", (file.hex(), cut), rule=Refused(13), read=read(file[:cut]))
+    longer = file + random.randbytes(random.randrange(1, 9))
+    demand_equal("file with more bytes", longer.hex(), rule=Refused(16), read=read(longer))
+    tally["reader: files written, read, cut and lengthened", ""] += 1
+
+
+def check_damaged(random, tally):
+    """14, 15 and 16 stay whatever follows, 13 stands for every part that ends sooner, and the first
+    2,048 bytes show the fault."""
+    file = damaged_file(random)
+    answer = read(file)
+    asked = file.hex()
+    demand_equal("first 2,048 bytes", asked, whole_input=answer, program=read(file[:INPUT_BYTES]))
+    if answer == Refused(13):
+        demand_equal("part of a file that ends", asked, rule=answer, read=read(file[: random.randrange(len(file) + 1)]))
+    elif isinstance(answer, Refused):
+        demand_equal("refused file with more bytes", asked, rule=answer, read=read(file + random.randbytes(3)))
+    kind = f"refused {answer.number}" if isinstance(answer, Refused) else "accepted"
+    tally["reader: damaged files", kind] += 1
+
+
+def check_replay(random, tally):
+    """A walk over eight desks against its accepted calls played sitting by sitting on a new store."""
+    walk = drawn_walk(random, remake=False)
+    player = Player()
+    for step, lines in replay_of(walk):
+        demand_equal(f"replay of {step.line()}", walk.text(), walk=lines, replay=player.play(step))
+        tally["demand 3: accepted calls played again sitting by sitting", step.name] += 1
+    demand_equal("desks at the end", walk.text(), walk=desks_of(walk.store), replay=desks_of(player.store))
+    for question in CLOSING_QUESTIONS:
+        answers = walk.player.play(question), player.play(question)
+        demand_equal(f"last question {question.line()}", walk.text(), walk=answers[0], replay=answers[1])
+    tally["demand 3: walks", ""] += 1
+    for step, lines in walk.steps:
+        tally[f"demand 3: {step.name} in the walks", answer_kind(lines)] += 1
+
+
+def desks_of(store):
+    return [sitting and (sitting.reservation, sitting.value()) for sitting in store.desks]
+
+
+# How many of each are drawn in a round.
+CHECKS = [
+    (check_logarithm, 10),
+    (check_counts, 3),
+    (check_held, 3),
+    (check_enumeration, 10),
+    (check_ties, 10),
+    (check_whole_tree, 3),
+    (check_written, 10),
+    (check_damaged, 30),
+    (check_replay, 3),
+]

@@ -1,0 +1,39 @@
+"""Document 01, "Counts and score": what N(s,a) counts. A sample is a tuple of symbols."""
+
+from reference.limits import COUNTS
+
+UNSEEN = (0,) * COUNTS
+
+
+def N(sample, s, a):
+    """The places i from |s|+1 to the sample's end where the |s| symbols before place i are s
+    and the symbol at i is a. Places count from 1."""
+    places = range(len(s) + 1, len(sample) + 1)
+    return sum(1 for i in places if before(sample, i, len(s)) == s and sample[i - 1] == a)
+
+
+def total(sample, s, A):
+    """N(s) is the sum over a."""
+    return sum(N(sample, s, a) for a in range(A))
+
+
+def before(sample, i, length):
+    """The `length` symbols before place i."""
+    return tuple(sample[i - 1 - length : i - 1])
+
+
+def contexts_at(sample, i, D):
+    """The contexts of up to D symbols that stand before place i, the empty one included."""
+    return [before(sample, i, length) for length in range(min(D, i - 1) + 1)]
+
+
+def counts_by_place(sample, D):
+    """The counts of every context that the sample has seen, taken place by place, oldest first.
+
+    A context that is not in the answer has N(s) = 0 (`UNSEEN`).
+    """
+    counts = {}
+    for i in range(1, len(sample) + 1):
+        for s in contexts_at(sample, i, D):
+            counts.setdefault(s, list(UNSEEN))[sample[i - 1]] += 1
+    return {s: tuple(row) for s, row in counts.items()}

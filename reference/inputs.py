@@ -1,0 +1,310 @@
+"""Random sittings and sitting files, whole and damaged. Everything is drawn from the `random` given,
+so a seed fixes it."""
+
+from reference.estimate import Sitting
+from reference.limits import ALPHABETS, DEPTHS, SAMPLE_LIMIT
+from reference.sitting_file import number_bytes, write
+
+# Which lengths are drawn, and how often: short ones for ties, long ones for deep trees.
+LENGTHS = [(range(0, 3), 1), (range(1, 9), 6), (range(9, 65), 5), (range(65, 400), 3), (range(505, 513), 1)]
+
+
+def weighted(random, choices):
+    """One of the choices, each with its weight beside it."""
+    return random.choices([choice for choice, _ in choices], [weight for _, weight in choices])[0]
+
+
+def drawn_length(random):
+    return random.choice(weighted(random, LENGTHS))
+
+
+def uniform(random, A, length):
+    return [random.randrange(A) for _ in range(length)]
+
+
+def skewed(random, A, length):
+    """Some symbols are much more frequent than others, and some may not occur."""
+    weights = [random.random() ** 4 for _ in range(A)]
+    return random.choices(range(A), weights, k=length)
+
+
+def constant(random, A, length):
+    return [random.randrange(A)] * length
+
+
+def periodic(random, A, length):
+    """A short string again and again, some of it with slips."""
+    turn = uniform(random, A, random.randrange(1, 8))
+    slips = random.choice([0, 0, 0.05])
+    return [
+        random.randrange(A) if random.random() < slips else turn[i % len(turn)] for i in range(length)
+    ]
+
+
+def with_memory(random, A, length):
+    """The next symbol mostly follows from the one or two before it."""
+    order = random.randrange(1, 3)
+    follower = {}
+    symbols = []
+    for _ in range(length):
+        past = tuple(symbols[-order:])
+        usual = follower.setdefault(past, random.randrange(A))
+        symbols.append(usual if random.random() < 0.8 else random.randrange(A))
+    return symbols
+
+
+def blocks(random, A, length):
+    """Runs of one symbol after another."""
+    symbols = []
+    while len(symbols) < length:
+        symbols += [random.randrange(A)] * random.randrange(1, 12)
+    return symbols[:length]
+
+
+SOURCES = [uniform, skewed, constant, periodic, with_memory, blocks]
+
+
+def drawn_sample(random, A, length):
+    return tuple(random.choice(SOURCES)(random, A, length))
+
+
+def changed(random, A, sample):
+    """The sample with a few symbols exchanged."""
+    symbols = list(sample)
+    for _ in range(random.randrange(1, 4)):
+        if symbols:
+            symbols[random.randrange(len(symbols))] = random.randrange(A)
+    return tuple(symbols)
+
+
+def drawn_pair(random, A):
+    """Two samples: of their own, of one source, equal, or nearly so."""
+    first = drawn_sample(random, A, drawn_length(random))
+    likeness = random.randrange(5)
+    if likeness == 0:
+        return first, first
+    if likeness == 1:
+        return first, changed(random, A, first)
+    if likeness == 2:
+        both = drawn_sample(random, A, 2 * len(first))
+        return both[: len(first)], both[len(first) :]
+    return first, drawn_sample(random, A, drawn_length(random))
+
+
+def drawn_sitting(random, shapes=None):
+    """A sitting; `shapes` are the pairs of A and D to choose from, all where none are named."""
+    A, D = random.choice(shapes) if shapes else (random.choice(ALPHABETS), random.choice(DEPTHS))
+    return Sitting(A, D, drawn_pair(random, A))
+
+
+def drawn_file(random):
+    """A whole file, mostly one whose contexts the program has room for. One in twenty has constant
+    samples at depth 0, so that its score shows one logarithm."""
+    if random.random() < 0.05:
+        return write(2, 0, *((0,) * random.randrange(2, SAMPLE_LIMIT + 1) for _ in range(2)))
+    sitting = drawn_sitting(random)
+    if random.random() < 0.5:
+        sitting = sitting._replace(D=random.randrange(3))
+    return write(sitting.A, sitting.D, *sitting.samples)
+
+
+def some_place(random, file):
+    return random.randrange(len(file) + 1)
+
+
+def exchanged(random, file, replacement):
+    """The file with one byte, early ones more often, replaced by others."""
+    if not file:
+        return replacement
+    place = random.randrange(min(len(file), random.choice([4, 6, 12, len(file)])))
+    return file[:place] + replacement + file[place + 1 :]
+
+
+def cut_short(random, file):
+    return file[: some_place(random, file)]
+
+
+def cut_near_end(random, file):
+    return file[: max(0, len(file) - random.randrange(1, 4))]
+
+
+def lengthened(random, file):
+    return file + random.randbytes(random.randrange(1, 5))
+
+
+def made_too_long(random, file):
+    """More bytes than the program reads."""
+    return file + random.randbytes(random.choice([2040, 2048, 2049, 5000]))
+
+
+def other_byte(random, file):
+    return exchanged(random, file, random.randbytes(1))
+
+
+def small_byte(random, file):
+    return exchanged(random, file, bytes([random.randrange(10)]))
+
+
+def high_bit(random, file):
+    return exchanged(random, file, bytes([128 + random.randrange(128)]))
+
+
+def longer_form(random, file):
+    """A number that is not in its shortest form."""
+    return exchanged(random, file, bytes([128 + random.randrange(10), 0]))
+
+
+def three_groups(random, file):
+    groups = [128 + random.randrange(10), 128 + random.randrange(128), random.randrange(3)]
+    return exchanged(random, file, bytes(groups))
+
+
+def two_groups(random, file):
+    return exchanged(random, file, number_bytes(random.choice([128, 129, 255, 511, 512, 513, 514, 600, 16383])))
+
+
+def byte_left_out(random, file):
+    return exchanged(random, file, b"")
+
+
+def byte_put_in(random, file):
+    place = some_place(random, file)
+    return file[:place] + random.randbytes(1) + file[place:]
+
+
+def any_bytes(random, file):
+    return random.randbytes(random.randrange(12))
+
+
+DAMAGES = [
+    cut_short,
+    cut_near_end,
+    lengthened,
+    made_too_long,
+    other_byte,
+    small_byte,
+    high_bit,
+    longer_form,
+    three_groups,
+    two_groups,
+    byte_left_out,
+    byte_put_in,
+    any_bytes,
+]
+
+
+def damaged_file(random):
+    file = drawn_file(random)
+    for _ in range(random.choice([1, 1, 1, 2, 3])):
+        file = random.choice(DAMAGES)(random, file)
+    return file
+
+
+def fixed_files():
+    """Files at the limits of document 01 and at each reading of its file rules."""
+    marked = [
+        (2, 1, (0, 1, 0, 1), (0, 1, 0, 1)),
+        (2, 1, (0, 1, 0, 1), (0, 0, 0, 0)),
+        (2, 1, (0, 1, 0, 1, 0, 1, 0, 1), (0, 0, 1, 0, 0, 1, 0, 0)),
+        (2, 0, (0, 1, 0, 1), (0, 1, 0, 1)),
+        (2, 1, (0,), (0,)),
+    ]
+    longest = (0,) * SAMPLE_LIMIT
+    limits = [
+        (2, 6, longest, longest),
+        (8, 6, longest, longest),
+        (2, 0, longest, ()),
+        (2, 0, (), longest),
+        (2, 0, (), ()),
+        (2, 0, longest + (0,), ()),
+        (2, 0, (), longest + (0,)),
+        (2, 6, (0,), (1,)),
+        (2, 7, (0,), (1,)),
+        (1, 0, (0,), (0,)),
+        (8, 0, (7,), (0,)),
+        (9, 0, (0,), (0,)),
+        (8, 0, (8,), (0,)),
+        (8, 0, (0,), (8,)),
+        (8, 0, (0,), (128,)),
+    ]
+    whole = [write(*values) for values in marked + limits + held_limits()]
+    return whole + [bytes.fromhex(text) for text in FAULTS] + too_long()
+
+
+# Faults by the readings of the file rules: empty; first groups alone; second groups; 14 against 13,
+# 15 against 13 and 14 against 15; missing and bad symbols; bytes after the last symbol.
+FAULTS = """
+
+ff
+80
+8000
+8080
+808080
+8001
+09
+01
+0207
+02
+0201
+020104
+020101
+028000
+02ff
+0201ff
+02018104
+02018004
+0201800300
+02018004ff
+0200800400
+0201010100
+02010101
+0201010180
+020101018000
+020101018100
+020101018080
+020101018001
+02010101ff7f
+0201010100ff
+0201010102
+02010101000000
+0201010100ff00
+02010101000080
+0201020202
+020102020080
+02010202008000
+020102020001
+02010202000101
+0201020200010100
+020102020001010000
+0201020200010102
+02000000
+0200000000
+02000001
+0200000100
+""".split("\n")[1:-1]
+
+
+def de_bruijn(A, length):
+    """A string in which every string of that length over the alphabet stands once (greedy, largest first)."""
+    symbols = [0] * length
+    seen = {tuple(symbols)}
+    while True:
+        past = tuple(symbols[-(length - 1) :]) if length > 1 else ()
+        new = next((a for a in reversed(range(A)) if past + (a,) not in seen), None)
+        if new is None:
+            return tuple(symbols)
+        seen.add(past + (new,))
+        symbols.append(new)
+
+
+def held_limits():
+    """Sittings that hold just the program's 256 contexts and one more, and refusals 10 that come before 11."""
+    many = de_bruijn(3, 5)
+    filling = [(3, 5, many[:length], (0,)) for length in range(152, 158)]
+    return filling + [(3, 5, many, ()), (3, 5, (), many)]
+
+
+def too_long():
+    """The longest accepted file, and bytes past it up to and past what the program reads."""
+    longest = write(2, 1, (0, 1) * 256, (0,) * SAMPLE_LIMIT)
+    return [longest, *(longest + bytes(2048 - len(longest) + more) for more in (-1, 0, 1)), bytes(2048), b"\x02" * 4096]

@@ -1,0 +1,64 @@
+"""Document 01, "Sitting file and program": what the program prints.
+
+    python3 -m reference.program < FILE
+"""
+
+import sys
+
+from reference.answers import Refused
+from reference.limits import ROW
+from reference.sitting_file import read, samples_of
+from reference.store import Store
+
+INPUT_BYTES = 2048
+STORE_NUMBERS = 8192
+K = 256
+SHEET_ROWS = 512
+
+
+def output(file):
+    """The program's whole output for the bytes at standard input.
+
+    Longer input is judged on its first 2,048 bytes.
+    """
+    lines = answer_lines(file[:INPUT_BYTES])
+    return "".join(line + "\n" for line in lines)
+
+
+def answer_lines(file):
+    shape = read(file)
+    if isinstance(shape, Refused):
+        return refused_line(shape)
+    store = Store()
+    for answer in played(store, shape, samples_of(file, shape)):
+        if isinstance(answer, Refused):
+            return refused_line(answer)
+    sheet = [0] * (ROW * SHEET_ROWS)
+    report = store.report(0, sheet, 0)
+    if isinstance(report, Refused):
+        return refused_line(report)
+    return report_lines(shape, report, sheet)
+
+
+def played(store, shape, samples):
+    """Makes the store, opens desk 0 with r 256, feeds the first sample and then the second."""
+    yield store.make(K, STORE_NUMBERS)
+    yield store.open(0, shape.A, shape.D, K)
+    for sample, symbols in enumerate(samples):
+        for symbol in symbols:
+            yield store.feed(0, sample, symbol)
+
+
+def refused_line(refused):
+    return [f"refused {refused.number}"]
+
+
+def report_lines(shape, report, sheet):
+    """A line with A, D, n, m, row count, doubled score; then a line for each row with kind,
+    length, code and A counts."""
+    rows = [sheet[ROW * row : ROW * row + 3 + shape.A] for row in range(report.rows)]
+    return [" ".join(map(str, numbers)) for numbers in [[*shape, *report], *rows]]
+
+
+if __name__ == "__main__":
+    sys.stdout.write(output(sys.stdin.buffer.read()))

@@ -1,0 +1,82 @@
+"""Document 01's marked examples and limits."""
+
+import unittest
+from math import floor, log2
+
+from reference.answers import Done, Refused, Report
+from reference.estimate import Sitting
+from reference.logarithm import L, follows_rule
+from reference.rows import estimate
+from reference.store import Store
+
+
+def row(kind, length, code, *counts):
+    return (kind, length, code, *counts, *[0] * (8 - len(counts)))
+
+
+def estimate_of(D, first, second, A=2):
+    return estimate(Sitting(A, D, (tuple(map(int, first)), tuple(map(int, second)))))
+
+
+class Logarithm(unittest.TestCase):
+    def test_marked_values(self):
+        marked = {0: 0, 1: 0, 3: 1623, 5: 2377, 9: 3246, 1023: 10238, 1024: 10240}
+        self.assertEqual({n: L(n) for n in marked}, marked)
+
+    def test_rule_holds_everywhere(self):
+        self.assertTrue(all(follows_rule(n, L(n)) for n in range(1, 1025)))
+
+    def test_near_the_floating_logarithm(self):
+        self.assertTrue(all(abs(L(n) - floor(1024 * log2(n))) <= 1 for n in range(1, 1025)))
+
+
+class Examples(unittest.TestCase):
+    def test_j1(self):
+        self.assertEqual(estimate_of(1, "0101", "0101"), ([row(0, 1, 0, 0, 4), row(0, 1, 1, 2, 0)], -6144))
+
+    def test_j1_needs_three_contexts(self):
+        self.assertEqual(self.fed_0101(reservation=3), [Done()] * 4)
+        self.assertEqual(self.fed_0101(reservation=2), [Done(), Done(), Refused(10), Refused(10)])
+
+    def fed_0101(self, reservation):
+        store = Store()
+        store.make(16, 2432)
+        store.open(0, 2, 1, reservation)
+        return [store.feed(0, 0, symbol) for symbol in (0, 1, 0, 1)]
+
+    def test_j2(self):
+        rows = [row(2, 0, 0, 4, 0), row(1, 1, 0, 0, 2), row(1, 1, 1, 1, 0)]
+        self.assertEqual(estimate_of(1, "0101", "0000"), (rows, -6144))
+
+    def test_j3(self):
+        rows = [row(1, 1, 0, 0, 4), row(2, 1, 0, 3, 2), row(0, 1, 1, 5, 0)]
+        self.assertEqual(estimate_of(1, "01010101", "00100100"), (rows, -20176))
+
+    def test_j4(self):
+        self.assertEqual(estimate_of(0, "0101", "0101"), ([row(0, 0, 0, 4, 4)], -19456))
+
+    def test_j5(self):
+        self.assertEqual(estimate_of(1, "0", "0"), ([row(1, 0, 0, 1), row(2, 0, 0, 1)], 0))
+
+
+class Limits(unittest.TestCase):
+    def setUp(self):
+        self.store = Store()
+        self.assertEqual(self.store.make(8, 2048 + 24 * 8), Done())
+
+    def test_depth(self):
+        self.assertEqual(self.store.open(0, 2, 6, 1), Done())
+        self.assertEqual(self.store.open(1, 2, 7, 1), Refused(5))
+
+    def test_sample(self):
+        self.store.open(0, 2, 0, 1)
+        self.assertEqual([self.store.feed(0, 1, 0) for _ in range(513)], [Done()] * 512 + [Refused(9)])
+        self.assertEqual(self.store.feed(0, 0, 0), Done())
+        self.assertEqual(self.store.report(0, [0] * 22, 0), Report(2, -9216))
+
+    def test_room_left(self):
+        self.assertEqual(self.store.open(0, 2, 0, 9), Refused(6))
+        self.assertEqual(self.store.open(0, 2, 0, 3), Done())
+        self.assertEqual(self.store.open(1, 2, 0, 6), Refused(7))
+        self.assertEqual(self.store.open(1, 2, 0, 5), Done())
+        self.assertEqual(self.store.open(2, 2, 0, 1), Refused(7))

@@ -1,0 +1,52 @@
+"""What the program prints."""
+
+import subprocess
+import sys
+import unittest
+
+from reference.counts import counts_by_place
+from reference.inputs import de_bruijn, fixed_files
+from reference.program import output
+from reference.sitting_file import write
+
+EXAMPLE = bytes.fromhex("02 01 08 08 00 01 00 01 00 01 00 01 00 00 01 00 00 01 00 00")
+PRINTED = "2 1 8 8 3 -20176\n1 1 0 0 4\n2 1 0 3 2\n0 1 1 5 0\n"
+
+
+class Program(unittest.TestCase):
+    def test_example(self):
+        self.assertEqual(output(EXAMPLE), PRINTED)
+
+    def test_example_as_a_command(self):
+        command = [sys.executable, "-m", "reference.program"]
+        run = subprocess.run(command, input=EXAMPLE, capture_output=True, check=True)
+        self.assertEqual(run.stdout.decode(), PRINTED)
+
+    def test_reader_refusals(self):
+        self.assertEqual(output(b""), "refused 13\n")
+        self.assertEqual(output(b"\x80\x00"), "refused 14\n")
+        self.assertEqual(output(b"\x09"), "refused 15\n")
+        self.assertEqual(output(EXAMPLE + b"\x00"), "refused 16\n")
+
+    def test_empty_samples(self):
+        for first, second in [((), ()), ((0,), ()), ((), (0,))]:
+            self.assertEqual(output(write(2, 1, first, second)), "refused 11\n")
+
+    def test_256_contexts_and_one_more(self):
+        many = de_bruijn(3, 5)
+        self.assertEqual([len(counts_by_place(many[:length], 5)) for length in (154, 155)], [256, 257])
+        self.assertTrue(output(write(3, 5, many[:154], (0,))).startswith("3 5 154 1 "))
+        self.assertEqual(output(write(3, 5, many[:155], (0,))), "refused 10\n")
+        self.assertEqual(output(write(3, 5, many, ())), "refused 10\n")
+
+    def test_longer_input_shows_a_fault(self):
+        self.assertEqual(output(EXAMPLE + bytes(5000)), "refused 16\n")
+        longest = write(2, 0, (0,) * 512, (1,) * 512)
+        self.assertEqual(output(longest), "2 0 512 512 2 -18432\n1 0 0 512 0\n2 0 0 0 512\n")
+        self.assertEqual(output(longest + bytes(1018)), "refused 16\n")
+        self.assertEqual(output(longest + bytes(1019)), "refused 16\n")
+
+    def test_fixed_files_show_every_answer(self):
+        printed = {output(file).split("\n")[0] for file in fixed_files()}
+        refusals = {line for line in printed if line.startswith("refused")}
+        self.assertEqual(refusals, {f"refused {number}" for number in (10, 11, 13, 14, 15, 16)})

@@ -1,0 +1,77 @@
+"""The language of scripts, and the scripts that are kept."""
+
+import struct
+import unittest
+from random import Random
+
+from reference.built import SCRIPTS, answers_of
+from reference.logarithm import L
+from reference.script import SCRIPT_BYTES, BadScript, Call, Player, call, parse, play
+from reference.walks import drawn_walk, every_length, spoilt_walk
+
+
+class Language(unittest.TestCase):
+    def test_words_only_part_numbers(self):
+        self.assertEqual(parse("0 make 4 2144\n1 open 0 2 1 3, 4"), parse("0 4 2144 1 0 2 1 3 4"))
+
+    def test_line_and_back(self):
+        calls = [call("make", 4, 2144), call("feedall", 0, 1, 5, 6, 7), call("feedall", 0, 1), call("room")]
+        self.assertEqual(calls[1].line(), "8 feedall 0 1 3 5 6 7")
+        self.assertEqual(parse("\n".join(step.line() for step in calls)), calls)
+
+    def test_what_is_no_script(self):
+        for text in ("9", "0 4", "2 0 0 4294967296", "8 0 0 3 1 1"):
+            self.assertRaises(BadScript, parse, text)
+        for text in ("0 1 100353", "5 0 5633 0", "7 100352 0"):
+            self.assertRaises(BadScript, play, "0 1 9999 " + text)
+
+    def test_feedall_stops_at_the_first_refusal(self):
+        answers = play("0 9 9999 1 0 2 1 2 8 0 0 4 0 1 0 1 8 0 0 0 8 1 0 1 0 6 0 1 0 1")
+        self.assertEqual(answers[2:5], [["fed 2 refused 10"], ["fed 0 whole"], ["fed 0 refused 4"]])
+        self.assertEqual(answers[5], ["chart first " + struct.pack(">d", 1.0).hex()])
+
+    def test_unknown_from_a_spoil_to_the_next_making(self):
+        answers = play("0 9 9999 7 0 5 4 0 0 0 0 9 2000 4 0 9 9999 4")
+        self.assertEqual(
+            answers,
+            [["done"], ["done"], ["unknown"], ["refused 17"], ["refused 18"], ["unknown"], ["done"], ["room 9"]],
+        )
+
+
+class Kept(unittest.TestCase):
+    def test_answers(self):
+        scripts = sorted(SCRIPTS.glob("*.script"))
+        self.assertEqual(len(scripts), 4)
+        for path in scripts:
+            printed = "".join(line + "\n" for lines in play(path.read_text()) for line in lines)
+            self.assertEqual(printed, path.with_suffix(".answers").read_text(), path.name)
+
+    def test_every_refusal_is_there(self):
+        text = "".join(path.read_text() for path in SCRIPTS.glob("*.answers"))
+        for number in [*range(1, 13), 17, 18]:
+            self.assertIn(f"refused {number}\n", text)
+
+
+class Walks(unittest.TestCase):
+    def test_every_length_shows_the_logarithm(self):
+        walk = every_length()
+        self.assertLessEqual(len(walk.text()), SCRIPT_BYTES)
+        reports = [lines[0] for step, lines in walk.steps if step.name == "report"]
+        self.assertEqual(reports[0], "refused 11")
+        self.assertEqual(reports[3:], [f"report 1 {-L(length)}" for length in range(4, 1025)])
+
+    def test_played_again_from_their_text(self):
+        for seed in range(6):
+            walk = (drawn_walk if seed % 2 else spoilt_walk)(Random(seed))
+            self.assertEqual(play(walk.text()), [lines for _, lines in walk.steps])
+
+    def test_answers_are_parted_by_call(self):
+        walk = drawn_walk(Random(7), unmade=True)
+        printed = "".join(line + "\n" for _, lines in walk.steps for line in lines)
+        self.assertEqual(answers_of(printed), [lines for _, lines in walk.steps])
+
+    def test_outside_is_counted(self):
+        self.assertEqual(answers_of("refused 12\noutside 3\ndone\n"), [["refused 12", "outside 3"], ["done"]])
+
+    def test_calls_are_names_and_numbers(self):
+        self.assertEqual(Player().play(Call("room", ())), ["refused 1"])

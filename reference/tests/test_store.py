@@ -1,0 +1,150 @@
+"""Refusals 1 to 12, 17 and 18, the sheet and the chart."""
+
+import unittest
+from fractions import Fraction
+
+from reference.answers import Both, Done, First, Neither, Refused, Report, Room, Second
+from reference.store import Store
+
+
+def store_with(K=100, **desk):
+    """A made store, with desk 0 open."""
+    store = Store()
+    store.make(K, 2048 + 24 * K)
+    opening = {"A": 2, "D": 1, "reservation": 10, **desk}
+    store.open(0, **opening)
+    return store
+
+
+def feed_all(store, sample, symbols, desk=0):
+    return [store.feed(desk, sample, int(symbol)) for symbol in symbols]
+
+
+class Refusals(unittest.TestCase):
+    def test_1_where_nothing_was_made(self):
+        store = Store()
+        calls = [store.open(9, 9, 9, 0), store.feed(9, 9, 9), store.close(9), store.room()]
+        calls += [store.report(9, [], 0), store.chart(9, 9, 9, 9)]
+        self.assertEqual(calls, [Refused(1)] * 6)
+
+    def test_2_desk_above_seven(self):
+        store = store_with()
+        calls = [store.open(8, 9, 9, 0), store.feed(8, 9, 9), store.close(8), store.report(8, [], 0)]
+        self.assertEqual(calls + [store.chart(8, 9, 9, 9)], [Refused(2)] * 5)
+
+    def test_3_and_4(self):
+        store = store_with()
+        self.assertEqual(store.open(0, 9, 9, 0), Refused(3))
+        calls = [store.feed(1, 9, 9), store.close(1), store.report(1, [], 0), store.chart(1, 9, 9, 9)]
+        self.assertEqual(calls, [Refused(4)] * 4)
+
+    def test_5_6_7_in_order(self):
+        store = store_with(K=12, reservation=5)
+        self.assertEqual([store.open(1, A, 0, 0) for A in (0, 1, 9)], [Refused(5)] * 3)
+        self.assertEqual(store.open(1, 8, 7, 99), Refused(5))
+        self.assertEqual([store.open(1, 8, 6, r) for r in (0, 13, 8)], [Refused(6), Refused(6), Refused(7)])
+        self.assertEqual(store.open(1, 8, 6, 7), Done())
+
+    def test_8_at_a_feed(self):
+        store = store_with()
+        self.assertEqual([store.feed(0, 2, 0), store.feed(0, 0, 2)], [Refused(8)] * 2)
+
+    def test_8_at_a_chart_question(self):
+        store = store_with(A=3, D=2)
+        wrong = [(0, 0, 3), (3, 0, 0), (0, 1, 0), (1, 3, 0), (1, 8, 0), (2, 24, 0), (2, 64, 0), (2**32 - 1, 0, 0)]
+        self.assertEqual([store.chart(0, *question) for question in wrong], [Refused(8)] * len(wrong))
+        self.assertEqual([store.chart(0, 0, 0, 2), store.chart(0, 2, 18, 0)], [Neither()] * 2)
+
+    def test_8_before_9_before_10(self):
+        store = store_with(D=0, reservation=1)
+        feed_all(store, 0, "0" * 512)
+        self.assertEqual([store.feed(0, 0, 2), store.feed(0, 0, 0)], [Refused(8), Refused(9)])
+        self.assertEqual(store.feed(0, 1, 0), Done())
+
+    def test_10_leaves_the_sample(self):
+        store = store_with(reservation=2)
+        self.assertEqual(feed_all(store, 0, "010"), [Done(), Done(), Refused(10)])
+        self.assertEqual(store.chart(0, 1, 0, 1), First(1.0))
+        self.assertEqual(feed_all(store, 1, "000"), [Done()] * 3)
+
+    def test_10_may_add_several_at_once(self):
+        """After 000 the fourth symbol follows one new context; after 0001 the next follows four."""
+        store = store_with(D=3, reservation=7)
+        self.assertEqual(feed_all(store, 0, "00010"), [Done()] * 5)
+        self.assertEqual(len(store.desks[0].held), 7)
+        tight = store_with(D=3, reservation=6)
+        self.assertEqual(feed_all(tight, 0, "00010")[4], Refused(10))
+
+    def test_11_goes_before_12(self):
+        store = store_with()
+        self.assertEqual(store.report(0, [], 0), Refused(11))
+        feed_all(store, 0, "01")
+        self.assertEqual(store.report(0, [], 99), Refused(11))
+
+    def test_17_goes_before_18_and_the_store_goes_on(self):
+        store = store_with()
+        self.assertEqual([store.make(K, 0) for K in (0, 4097)], [Refused(17)] * 2)
+        self.assertEqual([store.make(4096, 100351), store.make(1, 2071)], [Refused(18)] * 2)
+        self.assertEqual(store.room(), Room(90))
+        self.assertEqual([store.make(4096, 100352), store.room()], [Done(), Room(4096)])
+
+    def test_closed_room_serves_any_opening(self):
+        store = Store()
+        store.make(12, 2336)
+        for desk in range(3):
+            store.open(desk, 2, 1, 4)
+        store.close(0)
+        store.close(2)
+        self.assertEqual([store.open(5, 2, 1, 9), store.open(5, 2, 1, 8)], [Refused(7), Done()])
+
+
+class Sheet(unittest.TestCase):
+    def setUp(self):
+        self.store = store_with()
+        feed_all(self.store, 0, "0101")
+        feed_all(self.store, 1, "0101")
+
+    def test_rows_at_their_place(self):
+        sheet = list(range(100, 150))
+        self.assertEqual(self.store.report(0, sheet, 1), Report(2, -6144))
+        self.assertEqual(sheet[11:33], [0, 1, 0, 0, 4] + [0] * 6 + [0, 1, 1, 2, 0] + [0] * 6)
+        self.assertEqual(sheet[:11] + sheet[33:], list(range(100, 111)) + list(range(133, 150)))
+
+    def test_12(self):
+        for length, place, fits in [(22, 0, True), (21, 0, False), (32, 1, False), (33, 1, True), (0, 0, False)]:
+            sheet = [7] * length
+            answer = self.store.report(0, sheet, place)
+            self.assertEqual(isinstance(answer, Report), fits)
+            if not fits:
+                self.assertEqual((answer, sheet), (Refused(12), [7] * length))
+
+    def test_12_at_a_huge_place(self):
+        self.assertEqual(self.store.report(0, [0] * 5632, 2**32 - 1), Refused(12))
+        self.assertEqual(self.store.report(0, [0] * 5632, 510), Report(2, -6144))
+        self.assertEqual(self.store.report(0, [0] * 5632, 511), Refused(12))
+
+
+class Chart(unittest.TestCase):
+    def test_which_samples_saw_it(self):
+        store = store_with(A=3)
+        feed_all(store, 0, "0010")
+        feed_all(store, 1, "0221")
+        self.assertEqual(store.chart(0, 1, 1, 0), First(1.0))
+        self.assertEqual(store.chart(0, 1, 2, 1), Second(0.5))
+        self.assertEqual(store.chart(0, 1, 0, 1), Both(0.5, 0.0, 0.5))
+        self.assertEqual(store.chart(0, 0, 0, 0), Both(0.75, 0.25, 0.5))
+        self.assertEqual(store.desks[0].share(1, (1,), 0), None)
+
+    def test_shares_are_rounded_once(self):
+        store = store_with(D=0, reservation=1)
+        feed_all(store, 0, "0" + "1" * 2)
+        feed_all(store, 1, "0" + "1" * 48)
+        point = store.chart(0, 0, 0, 0)
+        self.assertEqual((point.first, point.second), (float(Fraction(1, 3)), float(Fraction(1, 49))))
+        self.assertEqual(point.gap, float(Fraction(point.first) - Fraction(point.second)))
+
+    def test_equal_shares_have_gap_plus_zero(self):
+        store = store_with(D=0, reservation=1)
+        feed_all(store, 0, "011")
+        feed_all(store, 1, "011011")
+        self.assertEqual(str(store.chart(0, 0, 0, 0).gap), "0.0")
