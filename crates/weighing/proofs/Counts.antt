@@ -16,13 +16,14 @@ use Rattle.logarithm.specs.Logarithm.{L}
 use Rattle.logarithm.proofs.Laws.{L-top, weight-top}
 use Rattle.contexts.specs.Context.{isContext}
 use Rattle.contexts.specs.Keys.{keyOf}
-use Rattle.contexts.specs.Sitting.{Sample, first, second, Sitting, totalIn, eight, table}
+use Rattle.contexts.specs.Sitting.{Sample, first, second, Sitting, totalIn, eight, table, rowIn, sumOf}
 use Rattle.estimate.specs.Trees.{Kind, shared, own, from}
 use Rattle.estimate.specs.Score.{counts, sizeOf, cost, whole, weights}
 use Rattle.estimate.specs.Recursion.{spread, losses}
-use Rattle.estimate.specs.Table.{rowIn, sumOf, CostsOf, LossesOf}
+use Rattle.estimate.specs.Table.{CostsOf, LossesOf}
 use Rattle.estimate.specs.declared.ByKind.{ByKind}
-use Rattle.estimate.proofs.Tables.{eight-at, sum-eight, kind-none, at, table-losses}
+use Rattle.contexts.proofs.Tables.{eight-at, sum-eight}
+use Rattle.estimate.proofs.Tables.{kind-none, at, table-losses}
 use Rattle.estimate.proofs.Unseen.{Flat, unseen-losses, unseen-flat}
 use Rattle.records.specs.Records.{width, records, countsOf, lookup}
 use Rattle.records.specs.Held.{held, recordAt, tableOf}

@@ -17,10 +17,10 @@ use Rattle.numbers.proofs.Sums.{sum-next, sum-mono, sum-same}
 use Rattle.contexts.specs.Context.{isContext}
 use Rattle.contexts.specs.Keys.{keyOf, deskSpan, contextOf}
 use Rattle.contexts.proofs.KeyOrder.{contextOf-key, contextKey-lt}
-use Rattle.contexts.specs.Sitting.{first, second, table}
+use Rattle.contexts.specs.Sitting.{first, second, table, rowIn, sumOf}
 use Rattle.estimate.specs.Trees.{Kind, shared, own, from}
 use Rattle.estimate.specs.Recursion.{Losses, losses}
-use Rattle.estimate.specs.Table.{rowIn, sumOf, LossesOf}
+use Rattle.estimate.specs.Table.{LossesOf}
 use Rattle.estimate.specs.declared.ByKind.{ByKind}
 use Rattle.estimate.proofs.Tables.{at}
 use Rattle.estimate.proofs.Unseen.{Flat}

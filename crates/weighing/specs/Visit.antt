@@ -9,10 +9,10 @@ use Rattle.numbers.specs.Limits.{deepest, mostSymbols, mostCounted, topLog}
 use Rattle.numbers.specs.Sum.{one}
 use Rattle.contexts.specs.Context.{isContext}
 use Rattle.contexts.specs.Keys.{digits, deskSpan, keyOf}
-use Rattle.contexts.specs.Sitting.{first, second}
+use Rattle.contexts.specs.Sitting.{first, second, rowIn, sumOf}
 use Rattle.estimate.specs.Trees.{Kind}
 use Rattle.estimate.specs.Recursion.{losses}
-use Rattle.estimate.specs.Table.{rowIn, sumOf, CostsOf}
+use Rattle.estimate.specs.Table.{CostsOf}
 use Rattle.estimate.specs.declared.ByKind.{ByKind}
 use Rattle.estimate.proofs.Tables.{at}
 use Rattle.records.specs.Records.{width, records, keys}
