@@ -7,3 +7,5 @@ pub mod Choosing
 pub mod Visiting
 pub mod Turning
 pub mod Whole
+pub mod Planning
+pub mod Sheets

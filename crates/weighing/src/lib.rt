@@ -116,6 +116,37 @@ fn visit(
     as_split(own, kids)
 }
 
+// Which members are wanted at a context and below it: those of both trees together, or those of the own trees that still go on.
+pub struct Way {
+    pub joint: bool,
+    pub first: bool,
+    pub second: bool,
+}
+
+// Which rows stand at a context, and what is wanted of its children.
+pub struct Plan {
+    pub shared: bool,
+    pub first: bool,
+    pub second: bool,
+    pub next: Way,
+}
+
+// A context with its code, 8 to the power of its length, and what is wanted of it.
+pub struct Spot {
+    pub key: u32,
+    pub span: u32,
+    pub left: u32,
+    pub code: u32,
+    pub power: u32,
+    pub way: Way,
+}
+
+// What is wanted of the children, and the next number of the sheet.
+pub struct Step {
+    pub way: Way,
+    pub to: usize,
+}
+
 // Whether the record at the place of a key has it.
 fn held_at(numbers: &[u32], n: usize, at: usize, key: u32) -> bool
     requires { ⌜ Stands n (now numbers) at key ⌝ }
