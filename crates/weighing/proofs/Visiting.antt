@@ -1,0 +1,171 @@
+-- A visit to one context, and its turns over the children. Assumes nothing.
+use Prim.Native.Nat.{ℕ, zero, suc, _+_, _-_, _*_, _/_, _^_, _≤_, _<_}
+use mathlib.Core.Path.{_≡_, refl, sym, ap, ap₂, subst, _∙_}
+use mathlib.Core.Bool.{Bool, true, false, not}
+use mathlib.Core.Logic.{⊎-elim}
+use mathlib.Core.List.{List, []}
+use native.Mathlib.Omega.{arith}
+use native.Mathlib.Nat.{mul-le-mul-right, pow-suc, eq-or-lt-of-le}
+use lib.ListN.{length, getD, set, length-append}
+use lib.Seq.{getD-set-same, getD-set-other}
+use lib.Dec.{T, eqb, leb, eqb→eq}
+use Rattle.numbers.specs.Limits.{mostCounted}
+use Rattle.numbers.specs.Sum.{one, sum}
+use Rattle.numbers.proofs.Tests.{T?, of-true}
+use Rattle.numbers.proofs.Orders.{Leb, le, gt, lebView, Order, less, same, more, order, eq→eqb}
+use Rattle.numbers.proofs.Sums.{sum-next, sum-mono, sum-same}
+use Rattle.contexts.specs.Context.{isContext}
+use Rattle.contexts.specs.Keys.{keyOf, deskSpan, contextOf}
+use Rattle.contexts.proofs.KeyOrder.{contextOf-key, contextKey-lt}
+use Rattle.contexts.specs.Sitting.{first, second, table, rowIn, sumOf}
+use Rattle.estimate.specs.Trees.{Kind, shared, own, from}
+use Rattle.estimate.specs.Recursion.{Losses, losses}
+use Rattle.estimate.specs.Table.{LossesOf}
+use Rattle.estimate.specs.declared.ByKind.{ByKind}
+use Rattle.estimate.proofs.Tables.{at}
+use Rattle.estimate.proofs.Unseen.{Flat}
+use Rattle.rows.specs.Walk.{older}
+use Rattle.records.specs.Records.{width, records, keys}
+use Rattle.records.specs.Held.{rank, held, recordAt, tableOf, Rising}
+use Rattle.records.proofs.Finding.{held-lost}
+use Rattle.weighing.specs.declared.Desk.{Desk}
+use Rattle.weighing.specs.declared.Context.{Context}
+use Rattle.weighing.specs.declared.Weighed.{Weighed}
+use Rattle.weighing.specs.Sitting.{sittingIn, Weighable}
+use Rattle.weighing.specs.Trees.{leastAt, membersAt, markAt, markOf}
+use Rattle.weighing.specs.Visit.{spanOf, endOf, Ready, Marked, Apart, Visited, Countable, Small, LeafOf}
+use Rattle.weighing.proofs.Cursor.{turnKey, rank-own, within, end-within, past-absent, past-deepest, turn-at, turns-past}
+use Rattle.weighing.proofs.Blocks.{context-older, key-older}
+use Rattle.weighing.proofs.Flat as flat
+use Rattle.weighing.proofs.Counts.{table-here, table-small, costs-small, losses-here, small-here, absent-flat, absent-losses}
+use Rattle.weighing.proofs.Choosing as choosing
+
+-- a key that is held stands at its place
+pub held-there : (key n p : ℕ) (l : List ℕ) → Rising (records n l) → p ≡ rank key (keys (records n l)) → T (held key (records n l)) → (p < n) × (getD l (width * p) 0 ≡ key)
+held-there key n p l up at h = go (order p n)
+  where
+    lost : (p < n → getD l (width * p) 0 ≡ key → ⊥) → ⊥
+    lost f = subst T (held-lost key n p l up at f) h
+
+    here : p < n → Dec (T (eqb (getD l (width * p) 0) key)) → (p < n) × (getD l (width * p) 0 ≡ key)
+    here lt (yes e) = (lt, eqb→eq _ key e)
+    here lt (no f) = absurd (lost (λ _ e. f (eq→eqb _ key e)))
+
+    go : Order p n → (p < n) × (getD l (width * p) 0 ≡ key)
+    go (less lt) = here lt (T? (eqb (getD l (width * p) 0) key))
+    go (same e) = absurd (lost (λ lt _. omega arith))
+    go (more e) = absurd (lost (λ lt _. omega arith))
+
+-- a decision is written beside a record
+module _ (k : Desk) (n : ℕ) (l : List ℕ) (p q v : ℕ) (old cur : List ℕ) (long : n ≤ length cur) (here : p < n)
+    (is : v ≡ markOf (k .symbols) (k .depth) (losses (sittingIn k (records n l))) (getD l (width * p) 0)) where
+  pub written-mark : Marked k n l (p + 1) q cur → Marked k n l p q (set cur p v)
+  written-mark m = record {
+    is = λ j lo hi. ⊎-elim
+        (λ (e : p ≡ j). rw (← e) (getD-set-same cur p v 0 (omega arith) ∙ is))
+        (λ (lt : p < j). getD-set-other cur p j v 0 (λ e. omega arith) ∙ m .is j (omega arith) hi)
+        (eq-or-lt-of-le lo);
+  }
+
+  pub written-apart : p < q → Apart (p + 1) q old cur → Apart p q old (set cur p v)
+  written-apart pq m = record {
+    low = λ j h. getD-set-other cur p j v 0 (λ e. omega arith) ∙ m .low j (omega arith);
+    high = λ j h. getD-set-other cur p j v 0 (λ e. omega arith) ∙ m .high j h;
+  }
+
+pub apart-none : (p q : ℕ) (old : List ℕ) → Apart p q old old
+apart-none p q old = record { low = λ j h. refl; high = λ j h. refl }
+
+-- one stretch of records after another
+pub marked-on : (k : Desk) (n : ℕ) (l : List ℕ) (lo mid hi : ℕ) (cur new : List ℕ) → Marked k n l lo mid cur → Marked k n l mid hi new → Apart mid hi cur new → Marked k n l lo hi new
+marked-on k n l lo mid hi cur new m g h = record { is = λ j p q. go j p q (lebView mid j) }
+  where
+    go : (j : ℕ) {b : Bool} → lo ≤ j → j < hi → Leb mid j b → getD new j 0 ≡ markOf (k .symbols) (k .depth) (losses (sittingIn k (records n l))) (getD l (width * j) 0)
+    go j p q (le o) = g .is j o q
+    go j p q (gt o) = h .low j o ∙ m .is j p o
+
+pub apart-on : (lo mid hi : ℕ) (old cur new : List ℕ) → lo ≤ mid → mid ≤ hi → Apart lo mid old cur → Apart mid hi cur new → Apart lo hi old new
+apart-on lo mid hi old cur new p q m h = record { low = λ j o. h .low j (omega arith) ∙ m .low j o; high = λ j o. h .high j o ∙ m .high j (omega arith) }
+
+module _ (k : Desk) (costs : ByKind) (n : ℕ) (l : List ℕ) (s : List ℕ) (c : Context) (p : ℕ) (q : Ready k costs n l s c p) where
+  abbrev f : Losses
+  f = losses (sittingIn k (records n l))
+
+  abbrev ks : List ℕ
+  ks = keys (records n l)
+
+  -- the decision at s is that of its key
+  mark-here : (d : ℕ) → length s + d ≡ k .depth → markOf (k .symbols) (k .depth) f (keyOf (k .number) s) ≡ markAt (k .symbols) d f s
+  mark-here d h = let e : k .depth - length s ≡ d = omega arith in rw (contextOf-key (k .number) s (within k n l (q .weighable) s (q .context)), e)
+
+  -- ---- a context that is not held
+  pub answer-absent : held (c .key) (records n l) ≡ false → (old : List ℕ) (r : Weighed) → LeafOf costs p r → Visited k n l s (c .left) p old old r
+  answer-absent absent old r g = record {
+    least = choosing.absent-least (k .symbols) f s costs bare p r g (q .weighable .some) unseen (c .left);
+    rows = choosing.absent-members (k .symbols) f s costs bare p r g (q .weighable .some) unseen (c .left);
+    past = g .onward ∙ q .place ∙ past-absent k n l (q .weighable) s (q .context) off;
+    marked = record { is = λ j lo hi. absurd (omega (arith, g .onward)) };
+    apart = apart-none p (r .next) old;
+  }
+    where
+      off : held (keyOf (k .number) s) (records n l) ≡ false
+      off = subst (λ (z : ℕ). held z (records n l) ≡ false) (q .key-is) absent
+
+      bare : (t : Kind) → at costs t ≡ f t s
+      bare = absent-losses k n l (q .weighable) costs (q .priced) s off
+
+      unseen : (t : Kind) → Flat (from s f t)
+      unseen = absent-flat k n l (q .weighable) costs (q .priced) s off
+
+  pub bare-small : Small costs
+  bare-small =
+      let small = costs-small k n l (q .weighable) costs (q .priced) in
+      record { first = omega (arith, small (own first)); second = omega (arith, small (own second)) }
+
+  -- ---- a context that is held
+  module _ (held-here : held (c .key) (records n l) ≡ true) where
+    on : T (held (keyOf (k .number) s) (records n l))
+    on = of-true (held (keyOf (k .number) s) (records n l)) (subst (λ (z : ℕ). held z (records n l) ≡ true) (q .key-is) held-here)
+
+    pub there : (p < n) × (getD l (width * p) 0 ≡ keyOf (k .number) s)
+    there = held-there (keyOf (k .number) s) n p l (q .weighable .standing .rising) (q .place) on
+
+    table-is : tableOf (recordAt p l) ≡ table (sittingIn k (records n l)) s
+    table-is = table-here k n l (q .weighable) s (q .context) p (there .0) (there .1)
+
+    pub countable : Countable l p costs
+    countable =
+        let small = costs-small k n l (q .weighable) costs (q .priced) in
+        record {
+          fits = omega (arith, there .0, q .weighable .standing .fits);
+          counted = subst (λ (z : List (List ℕ)). sumOf (rowIn z first) + sumOf (rowIn z second) ≤ mostCounted) (sym table-is) (table-small k n l (q .weighable) s);
+          shared-cost = small shared;
+          first-cost = small (own first);
+          second-cost = small (own second);
+        }
+
+    pub own-losses : (o : ByKind) → LossesOf (tableOf (recordAt p l)) costs o → (t : Kind) → at o t ≡ f t s
+    own-losses o g = losses-here k n l (q .weighable) costs (q .priced) s o (subst (λ (z : List (List ℕ)). LossesOf z costs o) table-is g)
+
+    pub own-small : (o : ByKind) → LossesOf (tableOf (recordAt p l)) costs o → Small o
+    own-small o g = small-here k n l (q .weighable) costs (q .priced) s o (own-losses o g)
+
+    pub past-own : p + 1 ≡ rank (keyOf (k .number) s + 1) ks
+    past-own = ap (λ (z : ℕ). z + 1) (q .place) ∙ sym (rank-own (keyOf (k .number) s) 0 (records n l) (q .weighable .standing .rising) on)
+
+    pub mark-there : (d v : ℕ) → length s + d ≡ k .depth → v ≡ markAt (k .symbols) d f s → v ≡ markOf (k .symbols) (k .depth) f (getD l (width * p) 0)
+    mark-there d v h e = e ∙ sym (mark-here d h) ∙ ap (markOf (k .symbols) (k .depth) f) (sym (there .1))
+
+    -- with no symbol left
+    pub answer-leaf : (o : ByKind) → ((t : Kind) → at o t ≡ f t s) → c .left ≡ 0 → (old : List ℕ) → n ≤ length old → (v : ℕ) → v ≡ one (not (leb (o .shared) (o .first + o .second)))
+        → (r : Weighed) → LeafOf o (p + 1) r → Visited k n l s (c .left) p old (set old p v) r
+    answer-leaf o is z old long v e r g = subst (λ (d : ℕ). Visited k n l s d p old (set old p v) r) (sym z) (record {
+      least = choosing.leaf-least (k .symbols) f s o is (p + 1) r g;
+      rows = choosing.leaf-members (k .symbols) f s o is (p + 1) r g;
+      past = g .onward ∙ past-own ∙ past-deepest k n l (q .weighable) s (q .context) (omega (arith, q .left-is));
+      marked = written-mark k n l p (r .next) v old old long (there .0) mark (record { is = λ j lo hi. absurd (omega (arith, g .onward)) });
+      apart = written-apart k n l p (r .next) v old old long (there .0) mark (omega (arith, g .onward)) (apart-none (p + 1) (r .next) old);
+    })
+      where
+        mark : v ≡ markOf (k .symbols) (k .depth) f (getD l (width * p) 0)
+        mark = mark-there 0 v (omega (arith, q .left-is)) (e ∙ choosing.leaf-mark (k .symbols) f s o is)

@@ -1,0 +1,78 @@
+-- A whole weighing: the visit to the empty context of a desk. Assumes nothing.
+use Prim.Native.Nat.{ℕ, _+_, _*_, _≤_, _<_}
+use mathlib.Core.Path.{_≡_, refl, sym, ap, subst, _∙_}
+use mathlib.Core.List.{List, []}
+use native.Mathlib.Omega.{arith}
+use lib.ListN.{length, getD, length-map}
+use lib.Dec.{leb}
+use Rattle.numbers.specs.Limits.{deepest}
+use Rattle.numbers.proofs.Orders.{Leb, le, gt, lebView}
+use Rattle.contexts.specs.Context.{isContext}
+use Rattle.contexts.specs.Keys.{deskSpan, keyOf, deskOf, contextOf}
+use Rattle.contexts.specs.Sitting.{first, second}
+use Rattle.contexts.proofs.KeyOrder.{digits-nil, contextOf-key}
+use Rattle.estimate.specs.Trees.{shared, own}
+use Rattle.estimate.specs.Recursion.{losses, estimateOf}
+use Rattle.estimate.specs.Table.{CostsOf}
+use Rattle.estimate.specs.declared.ByKind.{ByKind}
+use Rattle.rows.specs.Members.{members}
+use Rattle.rows.specs.Rows.{rowOf}
+use Rattle.rows.proofs.Walking.{walk-all}
+use Rattle.records.specs.Records.{width, records, keys}
+use Rattle.records.specs.Held.{rank}
+use Rattle.records.proofs.Rising.{up-to-middle, above-middle}
+use Rattle.weighing.specs.declared.Desk.{Desk}
+use Rattle.weighing.specs.declared.Context.{Context}
+use Rattle.weighing.specs.declared.Weighed.{Weighed}
+use Rattle.weighing.specs.declared.Least.{Least}
+use Rattle.weighing.specs.Sitting.{sittingIn, Weighable}
+use Rattle.weighing.specs.Trees.{leastAt, membersAt, markOf}
+use Rattle.weighing.specs.Visit.{spanOf, endOf, Ready, Visited}
+use Rattle.weighing.specs.Weighs.{CanWeigh, Decided, Weighs}
+
+module _ (k : Desk) (n : ℕ) (l : List ℕ) (w : Weighable k n l) where
+  root-key : k .number * deskSpan ≡ keyOf (k .number) []
+  root-key = let z = digits-nil deepest in omega arith
+
+  pub root-is : contextOf (k .number * deskSpan) ≡ []
+  unfolding isContext
+  root-is = ap contextOf root-key ∙ contextOf-key (k .number) [] tt
+
+  pub root-ready : (costs : ByKind) → CostsOf (k .symbols) (k .n) (k .m) costs → (p : ℕ) → p ≡ rank (k .number * deskSpan) (keys (records n l))
+      → Ready k costs n l [] (record { key = k .number * deskSpan; span = deskSpan; left = k .depth }) p
+  unfolding isContext
+  root-ready costs priced p e = record {
+    weighable = w;
+    priced = priced;
+    context = tt;
+    key-is = root-key;
+    span-is = refl;
+    left-is = omega arith;
+    place = e ∙ ap (λ (z : ℕ). rank z (keys (records n l))) root-key;
+  }
+
+  -- the records between the ranks are those of the desk
+  module _ (p : ℕ) (at : p ≡ rank (k .number * deskSpan) (keys (records n l))) (old kept : List ℕ) (long : n ≤ length kept) (r : Weighed) (g : Visited k n l [] (k .depth) p old kept r) where
+    decided : Decided k n l kept
+    decided = record {
+      beside = long;
+      is = λ j lt of. g .marked .is j
+          (rw at (up-to-middle n j (k .number * deskSpan) l lt (omega arith)))
+          (rw (g .past, root-end) (above-middle n j (k .number * deskSpan + deskSpan) l lt (w .standing .rising) (omega arith)));
+    }
+      where
+        root-end : endOf (k .number) [] ≡ k .number * deskSpan + deskSpan
+        root-end = let z = digits-nil deepest in omega arith
+
+    pub weighed : Weighs k n l kept (record { first = r .least .first; second = r .least .second; joint = r .least .shared; rows = r .rows .shared })
+    unfolding leastAt membersAt
+    weighed = record {
+      first-least = g .least (own first);
+      second-least = g .least (own second);
+      joint-least = g .least shared;
+      rows-are =
+          g .rows shared
+          ∙ ap length (walk-all (k .symbols) (k .depth) (losses (sittingIn k (records n l))))
+          ∙ sym (length-map (members (k .symbols) (k .depth) (estimateOf (sittingIn k (records n l)))) (rowOf (sittingIn k (records n l))));
+      decided = decided;
+    }

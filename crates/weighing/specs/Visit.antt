@@ -1,0 +1,131 @@
+-- What a visit to one context asks and gives. Assumes nothing.
+use mathlib.Core.Path.{_≡_}
+use mathlib.Core.Bool.{cond, not}
+use mathlib.Core.List.{List}
+use Prim.Native.Nat.{ℕ, _+_, _-_, _*_, _^_, _≤_, _<_, min}
+use lib.ListN.{length, getD}
+use lib.Dec.{T, leb}
+use Rattle.numbers.specs.Limits.{deepest, mostSymbols, mostCounted, topLog}
+use Rattle.numbers.specs.Sum.{one}
+use Rattle.contexts.specs.Context.{isContext}
+use Rattle.contexts.specs.Keys.{digits, deskSpan, keyOf}
+use Rattle.contexts.specs.Sitting.{first, second, rowIn, sumOf}
+use Rattle.estimate.specs.Trees.{Kind}
+use Rattle.estimate.specs.Recursion.{losses}
+use Rattle.estimate.specs.Table.{CostsOf}
+use Rattle.estimate.specs.declared.ByKind.{ByKind}
+use Rattle.estimate.proofs.Tables.{at}
+use Rattle.records.specs.Records.{width, records, keys}
+use Rattle.records.specs.Held.{rank, held, recordAt, tableOf, Standing}
+use Rattle.weighing.specs.declared.Desk.{Desk}
+use Rattle.weighing.specs.declared.Context.{Context}
+use Rattle.weighing.specs.declared.Weighed.{Weighed}
+use Rattle.weighing.specs.Sitting.{sittingIn, Weighable}
+use Rattle.weighing.specs.Trees.{leastAt, membersAt, choice, markOf}
+
+-- ---- where a visit stands
+
+-- how many keys the block of a context has: 8 for each symbol that could follow it, and for its length
+abbrev pub spanOf : List ℕ → ℕ
+spanOf s = 8 ^ (7 - length s)
+
+-- where the block of a desk's context ends: no context that begins with s has this key or one above
+abbrev pub endOf : ℕ → List ℕ → ℕ
+endOf d s = d * deskSpan + (digits deepest s * 8 + spanOf s)
+
+-- p is the place of a key among the first n records, or where it would stand
+pub record Stands (n : ℕ) (l : List ℕ) (p key : ℕ) : Type 0 where
+  pub standing : Standing n l
+  pub place : p ≡ rank key (keys (records n l))
+
+-- the counts of the record at a place can be weighed
+pub record Countable (l : List ℕ) (p : ℕ) (costs : ByKind) : Type 0 where
+  pub fits : width * (p + 1) ≤ length l
+  pub counted : sumOf (rowIn (tableOf (recordAt p l)) first) + sumOf (rowIn (tableOf (recordAt p l)) second) ≤ mostCounted
+  pub shared-cost : costs .shared ≤ mostSymbols * topLog
+  pub first-cost : costs .first ≤ mostSymbols * topLog
+  pub second-cost : costs .second ≤ mostSymbols * topLog
+
+-- what a visit to the context s of a desk asks
+pub record Ready (k : Desk) (costs : ByKind) (n : ℕ) (l : List ℕ) (s : List ℕ) (c : Context) (p : ℕ) : Type 0 where
+  pub weighable : Weighable k n l
+  pub priced : CostsOf (k .symbols) (k .n) (k .m) costs
+  pub context : T (isContext (k .symbols) (k .depth) s)
+  pub key-is : c .key ≡ keyOf (k .number) s
+  pub span-is : c .span ≡ spanOf s
+  pub left-is : length s + c .left ≡ k .depth
+  pub place : p ≡ rank (keyOf (k .number) s) (keys (records n l))
+
+-- ---- what it gives
+
+-- the decisions of the records from place p up to place q
+pub record Marked (k : Desk) (n : ℕ) (l : List ℕ) (p q : ℕ) (kept : List ℕ) : Type 0 where
+  pub is : (j : ℕ) → p ≤ j → j < q → getD kept j 0 ≡ markOf (k .symbols) (k .depth) (losses (sittingIn k (records n l))) (getD l (width * j) 0)
+
+-- nothing outside is written
+pub record Apart (p q : ℕ) (before after : List ℕ) : Type 0 where
+  pub low : (j : ℕ) → j < p → getD after j 0 ≡ getD before j 0
+  pub high : (j : ℕ) → q ≤ j → getD after j 0 ≡ getD before j 0
+
+-- the least loss and the members of each tree at s with d symbols left, the place past its block, and the decisions in between
+pub record Visited (k : Desk) (n : ℕ) (l : List ℕ) (s : List ℕ) (d p : ℕ) (before after : List ℕ) (r : Weighed) : Type 0 where
+  pub least : (t : Kind) → at (r .least) t ≡ leastAt (k .symbols) d (losses (sittingIn k (records n l))) t s
+  pub rows : (t : Kind) → at (r .rows) t ≡ length (membersAt (k .symbols) d (losses (sittingIn k (records n l))) t s)
+  pub past : r .next ≡ rank (endOf (k .number) s) (keys (records n l))
+  pub marked : Marked k n l p (r .next) after
+  pub apart : Apart p (r .next) before after
+
+-- ---- the numbers of one context, from its own losses and from what its children give
+
+-- no loss is above this
+abbrev pub mostLoss : ℕ
+mostLoss = mostSymbols * topLog + 2 * (mostCounted * topLog)
+
+pub record Small (own : ByKind) : Type 0 where
+  pub first : own .first ≤ mostLoss
+  pub second : own .second ≤ mostLoss
+
+-- a leaf with these losses; the walk goes on at a place
+pub record LeafOf (own : ByKind) (next : ℕ) (r : Weighed) : Type 0 where
+  pub first : r .least .first ≡ own .first
+  pub second : r .least .second ≡ own .second
+  pub joint : r .least .shared ≡ min (own .shared) (own .first + own .second)
+  pub first-rows : r .rows .first ≡ 1
+  pub second-rows : r .rows .second ≡ 1
+  pub joint-rows : r .rows .shared ≡ cond (leb (own .shared) (own .first + own .second)) 1 2
+  pub onward : r .next ≡ next
+
+-- a leaf with these losses, or a split over children that lose and hold this together
+pub record SplitOf (own : ByKind) (kids r : Weighed) : Type 0 where
+  pub first : r .least .first ≡ min (own .first) (kids .least .first)
+  pub second : r .least .second ≡ min (own .second) (kids .least .second)
+  pub joint : r .least .shared ≡ min (own .shared) (min (r .least .first + r .least .second) (kids .least .shared))
+  pub first-rows : r .rows .first ≡ cond (leb (own .first) (kids .least .first)) 1 (kids .rows .first)
+  pub second-rows : r .rows .second ≡ cond (leb (own .second) (kids .least .second)) 1 (kids .rows .second)
+  pub joint-rows : r .rows .shared
+      ≡ cond (leb (own .shared) (min (r .least .first + r .least .second) (kids .least .shared))) 1
+      (cond (leb (r .least .first + r .least .second) (kids .least .shared)) (r .rows .first + r .rows .second) (kids .rows .shared))
+  pub onward : r .next ≡ kids .next
+
+-- the sums of two
+pub record SumOf (x y r : ByKind) : Type 0 where
+  pub shared : r .shared ≡ x .shared + y .shared
+  pub first : r .first ≡ x .first + y .first
+  pub second : r .second ≡ x .second + y .second
+
+pub record Fits (x y : ByKind) : Type 0 where
+  pub shared : x .shared + y .shared < 2 ^ 64
+  pub first : x .first + y .first < 2 ^ 64
+  pub second : x .second + y .second < 2 ^ 64
+
+-- no child yet
+pub record NoneOf (next : ℕ) (r : Weighed) : Type 0 where
+  pub least : (t : Kind) → at (r .least) t ≡ 0
+  pub rows : (t : Kind) → at (r .rows) t ≡ 0
+  pub onward : r .next ≡ next
+
+-- .. and where the walk goes on after the second
+pub record ChildOf (kids w r : Weighed) : Type 0 where
+  pub least : SumOf (kids .least) (w .least) (r .least)
+  pub rows : SumOf (kids .rows) (w .rows) (r .rows)
+  pub onward : r .next ≡ w .next

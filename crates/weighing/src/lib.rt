@@ -1,0 +1,325 @@
+// The weighing of a desk's records: what its trees lose at least, how many rows the report has, and the decisions, kept beside the records.
+use estimate::ByKind;
+ghost use mathlib.Core.Path.{_≡_};
+ghost use mathlib.Core.Bool.{cond, not};
+ghost use Prim.Native.Nat.{ℕ, _+_, _*_, _≤_, _<_, _^_, min};
+ghost use lib.ListN.{length};
+ghost use lib.Dec.{leb};
+ghost use Rattle.numbers.specs.Sum.{one};
+ghost use Rattle.contexts.specs.Keys.{contextOf};
+ghost use Rattle.records.specs.Records.{width, records};
+ghost use Rattle.estimate.specs.Table.{LossesOf};
+ghost use Rattle.records.specs.Held.{held, recordAt, tableOf};
+ghost use Rattle.weighing.specs.Trees.{choice};
+ghost use Rattle.weighing.specs.Weighs.{CanWeigh, Weighs};
+ghost use Rattle.weighing.specs.Visit.{Stands, Countable, Ready, Visited, mostLoss, Small, LeafOf, SplitOf, SumOf, Fits, NoneOf, ChildOf};
+
+const WIDTH: usize = 24;
+
+const DESK_SPAN: u32 = 2097152;
+
+// An open desk: its number, A, D and the samples' lengths.
+pub struct Desk {
+    pub number: u32,
+    pub symbols: u32,
+    pub depth: u32,
+    pub n: u32,
+    pub m: u32,
+}
+
+// A context: its key, how many keys its block has, and how many symbols are left below it.
+pub struct Context {
+    pub key: u32,
+    pub span: u32,
+    pub left: u32,
+}
+
+// What each tree at a context loses at least, how many members it has, and the place of the first record past the context's block.
+// Under `shared` stand both trees together.
+pub struct Weighed {
+    pub least: ByKind,
+    pub rows: ByKind,
+    pub next: usize,
+}
+
+// What the trees of a desk's sitting lose at least, each alone and both together, and how many rows its report has.
+pub struct Least {
+    pub first: u64,
+    pub second: u64,
+    pub joint: u64,
+    pub rows: u64,
+}
+
+// Weighs the trees of a desk over the first `n` records, and keeps the decision at each of its contexts beside the record.
+pub fn weigh(numbers: &[u32], n: usize, desk: Desk, kept: &mut [u8]) -> Least
+    requires { ⌜ CanWeigh desk n (now numbers) (now kept) ⌝ }
+    ensures { λ r. ⌜ Weighs desk n (now (numbers .entry)) (now (kept .exit)) r ⌝ }
+{
+    let costs = estimate::costs_of(desk.symbols, desk.n, desk.m);
+    let key = desk.number * DESK_SPAN;
+    let root = Context {
+        key,
+        span: DESK_SPAN,
+        left: desk.depth,
+    };
+    let at = records::place_of(numbers, n, key);
+    let w = visit(numbers, kept, n, desk, costs, root, at);
+    let least = w.least;
+    let rows = w.rows;
+    Least {
+        first: least.first,
+        second: least.second,
+        joint: least.shared,
+        rows: rows.shared,
+    }
+}
+
+// The trees at a context, whose place the walk has come to. A context that is not held is answered without a descent.
+// The decision at each record of its block is kept beside it.
+fn visit(
+    numbers: &[u32],
+    kept: &mut [u8],
+    n: usize,
+    desk: Desk,
+    costs: ByKind,
+    here: Context,
+    at: usize,
+) -> Weighed
+    requires { ⌜ (n ≤ length (now kept)) × Ready desk costs n (now numbers) (contextOf (here .key)) here at ⌝ }
+    ensures { λ r. ⌜ Visited desk n (now (numbers .entry)) (contextOf (here .key)) (here .left) at (now (kept .entry)) (now (kept .exit)) r ⌝ }
+{
+    if !held_at(numbers, n, at, here.key) {
+        return as_leaf(costs, at);
+    }
+    let own = losses_at(numbers, at, costs);
+    if here.left == 0 {
+        kept[at] = leaf_mark(own);
+        return as_leaf(own, at + 1);
+    }
+    let span = here.span / 8;
+    let mut key = here.key + 1;
+    let mut kids = none_yet(at + 1);
+    let mut a: u32 = 0;
+    while a < desk.symbols {
+        let next = kids.next;
+        let child = Context {
+            key,
+            span,
+            left: here.left - 1,
+        };
+        let w = visit(numbers, kept, n, desk, costs, child, next);
+        kids = and_child(kids, w);
+        key += span;
+        a += 1;
+    }
+    kept[at] = split_mark(own, kids.least);
+    as_split(own, kids)
+}
+
+// Which members are wanted at a context and below it: those of both trees together, or those of the own trees that still go on.
+pub struct Way {
+    pub joint: bool,
+    pub first: bool,
+    pub second: bool,
+}
+
+// Which rows stand at a context, and what is wanted of its children.
+pub struct Plan {
+    pub shared: bool,
+    pub first: bool,
+    pub second: bool,
+    pub next: Way,
+}
+
+// A context with its code, 8 to the power of its length, and what is wanted of it.
+pub struct Spot {
+    pub key: u32,
+    pub span: u32,
+    pub left: u32,
+    pub code: u32,
+    pub power: u32,
+    pub way: Way,
+}
+
+// What is wanted of the children, and the next number of the sheet.
+pub struct Step {
+    pub way: Way,
+    pub to: usize,
+}
+
+// Whether the record at the place of a key has it.
+fn held_at(numbers: &[u32], n: usize, at: usize, key: u32) -> bool
+    requires { ⌜ Stands n (now numbers) at key ⌝ }
+    ensures { λ r. ⌜ r ≡ held key (records n (now (numbers .entry))) ⌝ }
+{
+    if n <= at {
+        return false;
+    }
+    numbers[WIDTH * at] == key
+}
+
+// The losses of the context of the record at a place.
+fn losses_at(numbers: &[u32], at: usize, costs: ByKind) -> ByKind
+    requires { ⌜ Countable (now numbers) at costs ⌝ }
+    ensures { λ r. ⌜ LossesOf (tableOf (recordAt at (now (numbers .entry)))) costs r ⌝ }
+{
+    estimate::losses_of(records::counts_at(numbers, at), costs)
+}
+
+// The context is a leaf with these losses.
+fn as_leaf(own: ByKind, next: usize) -> Weighed
+    requires { ⌜ Small own ⌝ }
+    ensures { λ r. ⌜ LeafOf own next r ⌝ }
+{
+    let apart = own.first + own.second;
+    let rows = ByKind {
+        shared: leaf_rows(own.shared, apart),
+        first: 1,
+        second: 1,
+    };
+    let least = ByKind {
+        shared: smaller(own.shared, apart),
+        first: own.first,
+        second: own.second,
+    };
+    Weighed { least, rows, next }
+}
+
+// The context is a leaf with these losses, or a split over children that lose and hold this together.
+fn as_split(own: ByKind, kids: Weighed) -> Weighed
+    requires { ⌜ Small own × (kids .rows .first + kids .rows .second + 2 < 2 ^ 64) ⌝ }
+    ensures { λ r. ⌜ SplitOf own kids r ⌝ }
+{
+    let below = kids.least;
+    let held = kids.rows;
+    let first = smaller(own.first, below.first);
+    let second = smaller(own.second, below.second);
+    let first_rows = own_rows(own.first, below.first, held.first);
+    let second_rows = own_rows(own.second, below.second, held.second);
+    let apart = first + second;
+    let rows = ByKind {
+        shared: joint_rows(
+            own.shared,
+            apart,
+            below.shared,
+            first_rows + second_rows,
+            held.shared,
+        ),
+        first: first_rows,
+        second: second_rows,
+    };
+    let least = ByKind {
+        shared: smaller(own.shared, smaller(apart, below.shared)),
+        first,
+        second,
+    };
+    Weighed {
+        least,
+        rows,
+        next: kids.next,
+    }
+}
+
+// No child yet.
+fn none_yet(next: usize) -> Weighed
+    ensures { λ r. ⌜ NoneOf next r ⌝ }
+{
+    let none = ByKind {
+        shared: 0,
+        first: 0,
+        second: 0,
+    };
+    Weighed {
+        least: none,
+        rows: none,
+        next,
+    }
+}
+
+// One child more.
+fn and_child(kids: Weighed, w: Weighed) -> Weighed
+    requires { ⌜ Fits (kids .least) (w .least) × Fits (kids .rows) (w .rows) ⌝ }
+    ensures { λ r. ⌜ ChildOf kids w r ⌝ }
+{
+    Weighed {
+        least: plus(kids.least, w.least),
+        rows: plus(kids.rows, w.rows),
+        next: w.next,
+    }
+}
+
+fn plus(x: ByKind, y: ByKind) -> ByKind
+    requires { ⌜ Fits x y ⌝ }
+    ensures { λ r. ⌜ SumOf x y r ⌝ }
+{
+    ByKind {
+        shared: x.shared + y.shared,
+        first: x.first + y.first,
+        second: x.second + y.second,
+    }
+}
+
+// The members of a shared leaf, or of two separate leaves.
+fn leaf_rows(leaf: u64, apart: u64) -> u64
+    ensures { λ r. ⌜ r ≡ cond (leb leaf apart) 1 2 ⌝ }
+{
+    if leaf <= apart { 1 } else { 2 }
+}
+
+// The members of an own tree: itself, or those of its children.
+fn own_rows(leaf: u64, split: u64, below: u64) -> u64
+    ensures { λ r. ⌜ (r ≡ cond (leb leaf split) 1 below) × (r ≤ 1 + below) ⌝ }
+{
+    if leaf <= split { 1 } else { below }
+}
+
+// The members of both trees: of a shared leaf, of two separate trees, or of a split of both.
+fn joint_rows(leaf: u64, apart: u64, split: u64, both: u64, below: u64) -> u64
+    ensures { λ r. ⌜ r ≡ cond (leb leaf (min apart split)) 1 (cond (leb apart split) both below) ⌝ }
+{
+    if leaf <= smaller(apart, split) {
+        return 1;
+    }
+    if apart <= split { both } else { below }
+}
+
+// The decision at a leaf with these losses.
+fn leaf_mark(own: ByKind) -> u8
+    requires { ⌜ Small own ⌝ }
+    ensures { λ r. ⌜ r ≡ one (not (leb (own .shared) (own .first + own .second))) ⌝ }
+{
+    more(own.shared, own.first + own.second)
+}
+
+// The decision at a context over children that lose this together.
+fn split_mark(own: ByKind, below: ByKind) -> u8
+    requires { ⌜ Small own ⌝ }
+    ensures { λ r. ⌜ r ≡ choice (own .shared) (min (own .first) (below .first) + min (own .second) (below .second)) (below .shared) + 3 * one (not (leb (own .first) (below .first))) + 6 * one (not (leb (own .second) (below .second))) ⌝ }
+{
+    let apart = smaller(own.first, below.first) + smaller(own.second, below.second);
+    choice_of(own.shared, apart, below.shared)
+        + 3 * more(own.first, below.first)
+        + 6 * more(own.second, below.second)
+}
+
+// Of a shared leaf, two separate trees and a split of both, the first that loses least.
+fn choice_of(leaf: u64, apart: u64, split: u64) -> u8
+    ensures { λ r. ⌜ (r ≡ choice leaf apart split) × (r ≤ 2) ⌝ }
+{
+    if leaf <= smaller(apart, split) {
+        return 0;
+    }
+    if apart <= split { 1 } else { 2 }
+}
+
+fn more(x: u64, y: u64) -> u8
+    ensures { λ r. ⌜ (r ≡ one (not (leb x y))) × (r ≤ 1) ⌝ }
+{
+    if x <= y { 0 } else { 1 }
+}
+
+fn smaller(x: u64, y: u64) -> u64
+    ensures { λ r. ⌜ (r ≡ min x y) × (r ≤ x) ⌝ }
+{
+    if x <= y { x } else { y }
+}
