@@ -13,7 +13,7 @@ use layout::USED;
 use layout::WIDTH;
 use soundness::frame_ok;
 use soundness::pass;
-use soundness::reserved;
+pub use soundness::reserved;
 
 // Whether a lent store stands for sittings.
 pub fn sound(store: &[u32]) -> bool
