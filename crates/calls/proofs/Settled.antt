@@ -19,26 +19,35 @@ use Rattle.calls.specs.Promises.{Moves, Asks, Reports}
 
 -- ---- two results that a promise allows
 
-pub record SameMove (o o′ : Outcome Answer) (x y : List ℕ) : Type 0 where
+pub record SameMove (before : List ℕ) (o o′ : Outcome Answer) (x y : List ℕ) : Type 0 where
   pub answer : o ≡ o′
   pub meaning-same : meaning x ≡ meaning y
+  pub sound-same : soundb x ≡ soundb y
   pub numbers-refused : (n : ℕ) → o ≡ refused n → x ≡ y
+  pub past-same : drop (storeSize (room before)) x ≡ drop (storeSize (room before)) y
   pub length-same : length x ≡ length y
 
 module _ (before : List ℕ) (c : Call rules) (o o′ : Outcome Answer) where
   -- THEOREM. Whatever a move's promise allows has one answer and one meaning, and the numbers themselves where it is a refusal
-  pub moves-settled : (x y : List ℕ) → Moves before c o x → Moves before c o′ y → SameMove o o′ x y
+  pub moves-settled : (x y : List ℕ) → Moves before c o x → Moves before c o′ y → SameMove before o o′ x y
   moves-settled x y p q = go (soundb before) refl
     where
       one : o ≡ o′ → (n : ℕ) → o ≡ refused n → x ≡ y
       one e n r = p .refused-stays n r ∙ sym (q .refused-stays n (sym e ∙ r))
 
-      made : o ≡ o′ → meaning x ≡ meaning y → SameMove o o′ x y
-      made e m = record { answer = e; meaning-same = m; numbers-refused = one e; length-same = p .length-stays ∙ sym (q .length-stays) }
+      made : o ≡ o′ → meaning x ≡ meaning y → soundb x ≡ soundb y → SameMove before o o′ x y
+      made e m t = record {
+        answer = e;
+        meaning-same = m;
+        sound-same = t;
+        numbers-refused = one e;
+        past-same = p .past-stays ∙ sym (q .past-stays);
+        length-same = p .length-stays ∙ sym (q .length-stays);
+      }
 
-      go : (b : Bool) → soundb before ≡ b → SameMove o o′ x y
-      go true e = made (p .answers e ∙ sym (q .answers e)) (p .moves e ∙ sym (q .moves e))
-      go false e = let r = p .unsound e in let f = r ∙ sym (q .unsound e) in made f (ap meaning (one f 1 r))
+      go : (b : Bool) → soundb before ≡ b → SameMove before o o′ x y
+      go true e = made (p .answers e ∙ sym (q .answers e)) (p .moves e ∙ sym (q .moves e)) (p .stays-sound e ∙ sym (q .stays-sound e))
+      go false e = let r = p .unsound e in let f = r ∙ sym (q .unsound e) in let n = one f 1 r in made f (ap meaning n) (ap soundb n)
 
   -- THEOREM. Whatever a question's promise allows has one answer
   pub asks-settled : Asks before c o → Asks before c o′ → o ≡ o′
