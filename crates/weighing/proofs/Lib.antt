@@ -9,3 +9,4 @@ pub mod Turning
 pub mod Whole
 pub mod Planning
 pub mod Sheets
+pub mod Putting

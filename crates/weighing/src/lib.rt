@@ -1,7 +1,7 @@
 // The weighing of a desk's records: what its trees lose at least, how many rows the report has, and the decisions, kept beside the records.
 use estimate::ByKind;
 ghost use mathlib.Core.Path.{_≡_};
-ghost use mathlib.Core.Bool.{cond, not};
+ghost use mathlib.Core.Bool.{cond, not, _&&_};
 ghost use Prim.Native.Nat.{ℕ, _+_, _*_, _≤_, _<_, _^_, min};
 ghost use lib.ListN.{length};
 ghost use lib.Dec.{leb};
@@ -9,14 +9,18 @@ ghost use Rattle.numbers.specs.Sum.{one};
 ghost use Rattle.contexts.specs.Keys.{contextOf};
 ghost use Rattle.records.specs.Records.{width, records};
 ghost use Rattle.estimate.specs.Table.{LossesOf};
-ghost use Rattle.records.specs.Held.{held, recordAt, tableOf};
+ghost use Rattle.records.specs.Held.{held, recordAt, tableOf, Standing};
 ghost use Rattle.weighing.specs.Trees.{choice};
+ghost use Rattle.weighing.specs.Plans.{goesOn, ownPlan, planOf};
+ghost use Rattle.weighing.specs.Writing.{Written, numbersIf, numbersHere, Roomy, keptMark, CanWriteHere, WroteNumbers};
 ghost use Rattle.weighing.specs.Weighs.{CanWeigh, Weighs};
 ghost use Rattle.weighing.specs.Visit.{Stands, Countable, Ready, Visited, mostLoss, Small, LeafOf, SplitOf, SumOf, Fits, NoneOf, ChildOf};
 
 const WIDTH: usize = 24;
 
 const DESK_SPAN: u32 = 2097152;
+
+const ROW_WIDTH: usize = 11;
 
 // An open desk: its number, A, D and the samples' lengths.
 pub struct Desk {
@@ -322,4 +326,155 @@ fn smaller(x: u64, y: u64) -> u64
     ensures { λ r. ⌜ (r ≡ min x y) × (r ≤ x) ⌝ }
 {
     if x <= y { x } else { y }
+}
+
+// The rows at one context, and what is wanted of its children.
+fn write_here(
+    numbers: &[u32],
+    n: usize,
+    kept: &[u8],
+    costs: ByKind,
+    sheet: &mut [u32],
+    spot: Spot,
+    len: u32,
+    to: usize,
+) -> Step
+    requires { ⌜ CanWriteHere n (now numbers) (now kept) costs (length (now sheet)) spot len to ⌝ }
+    ensures { λ r. ⌜ WroteNumbers n (now (numbers .entry)) (now (kept .entry)) costs (now (sheet .entry)) (now (sheet .exit)) spot len to r ⌝ }
+{
+    let way = spot.way;
+    let plan = plan_of(way, mark_of(numbers, n, kept, costs, spot.key));
+    let counts = records::table_of(numbers, n, spot.key);
+    let next = plan.next;
+    Step {
+        way: next,
+        to: put_here(sheet, to, plan, len, spot.code, counts),
+    }
+}
+
+// The decision at a context: the one kept beside its record, or that of a leaf that costs this where it is not held.
+fn mark_of(numbers: &[u32], n: usize, kept: &[u8], costs: ByKind, key: u32) -> u8
+    requires { ⌜ Standing n (now numbers) × (n ≤ length (now kept)) × Small costs ⌝ }
+    ensures { λ r. ⌜ r ≡ keptMark n (now (numbers .entry)) (now (kept .entry)) costs key ⌝ }
+{
+    let at = records::place_of(numbers, n, key);
+    if held_at(numbers, n, at, key) {
+        return kept[at];
+    }
+    leaf_mark(costs)
+}
+
+// The rows that a plan has at one context; the place after them.
+fn put_here(
+    sheet: &mut [u32],
+    to: usize,
+    plan: Plan,
+    len: u32,
+    code: u32,
+    counts: [[u32; 8]; 2],
+) -> usize
+    requires { ⌜ Roomy (length (now sheet)) to (length (numbersHere plan len code counts)) counts ⌝ }
+    ensures { λ r. ⌜ Written (now (sheet .entry)) (now (sheet .exit)) to (numbersHere plan len code counts) r ⌝ }
+{
+    let a = put_if(sheet, to, plan.shared, 0, len, code, counts);
+    let b = put_if(sheet, a, plan.first, 1, len, code, counts);
+    put_if(sheet, b, plan.second, 2, len, code, counts)
+}
+
+// A row, where it is wanted; the place after it.
+fn put_if(
+    sheet: &mut [u32],
+    to: usize,
+    on: bool,
+    kind: u32,
+    len: u32,
+    code: u32,
+    counts: [[u32; 8]; 2],
+) -> usize
+    requires { ⌜ Roomy (length (now sheet)) to (length (numbersIf on kind len code counts)) counts ⌝ }
+    ensures { λ r. ⌜ Written (now (sheet .entry)) (now (sheet .exit)) to (numbersIf on kind len code counts) r ⌝ }
+{
+    if !on {
+        return to;
+    }
+    let past = to + ROW_WIDTH;
+    rows::put_row(&mut sheet[to..past], kind, len, code, counts);
+    past
+}
+
+// The decision read back.
+fn plan_of(way: Way, mark: u8) -> Plan
+    ensures { λ r. ⌜ r ≡ planOf way mark ⌝ }
+{
+    let first = mark / 3 % 2 == 1;
+    let second = mark / 6 == 1;
+    if !way.joint {
+        return own_plan(way.first, way.second, first, second);
+    }
+    if mark % 3 == 0 {
+        return Plan {
+            shared: true,
+            first: false,
+            second: false,
+            next: Way {
+                joint: false,
+                first: false,
+                second: false,
+            },
+        };
+    }
+    if mark % 3 == 1 {
+        return own_plan(true, true, first, second);
+    }
+    Plan {
+        shared: false,
+        first: false,
+        second: false,
+        next: Way {
+            joint: true,
+            first: false,
+            second: false,
+        },
+    }
+}
+
+// Own trees that still go on, m and n, of which p and q split.
+fn own_plan(m: bool, n: bool, p: bool, q: bool) -> Plan
+    ensures { λ r. ⌜ r ≡ ownPlan m n p q ⌝ }
+{
+    Plan {
+        shared: false,
+        first: but_not(m, p),
+        second: but_not(n, q),
+        next: Way {
+            joint: false,
+            first: both(m, p),
+            second: both(n, q),
+        },
+    }
+}
+
+fn both(x: bool, y: bool) -> bool
+    ensures { λ r. ⌜ r ≡ (x && y) ⌝ }
+{
+    if x { y } else { false }
+}
+
+fn but_not(x: bool, y: bool) -> bool
+    ensures { λ r. ⌜ r ≡ (x && not y) ⌝ }
+{
+    if y { false } else { x }
+}
+
+// Whether anything is wanted.
+fn goes_on(way: Way) -> bool
+    ensures { λ r. ⌜ r ≡ goesOn way ⌝ }
+{
+    if way.joint {
+        return true;
+    }
+    if way.first {
+        return true;
+    }
+    way.second
 }
