@@ -52,21 +52,20 @@ module _ (k : Desk) (n : ℕ) (l : List ℕ) (w : Weighable k n l) where
   abbrev sitting : Sitting
   sitting = sittingIn k (records n l)
 
-  -- ---- a context that is held, at place p
+  -- ---- a context's table is that of what stands under its key
 
-  module _ (s : List ℕ) (c : T (isContext (k .symbols) (k .depth) s)) (p : ℕ) (here : p < n) (is : getD l (width * p) 0 ≡ keyOf (k .number) s) where
-    record-here : lookup (keyOf (k .number) s) (records n l) ≡ recordAt p l
-    record-here = lookup-found (keyOf (k .number) s) n p l (w .standing .rising) here is ∙ part-at width n p l here
+  module _ (s : List ℕ) (c : T (isContext (k .symbols) (k .depth) s)) where
+    counts-are : (i : Sample) → eight (sitting .count i s) ≡ countsOf i (lookup (keyOf (k .number) s) (records n l))
+    counts-are i = eight-list (sitting .count i s) (countsOf i (lookup (keyOf (k .number) s) (records n l)))
+        (length-counts i (lookup (keyOf (k .number) s) (records n l)) (wide-lookup (keyOf (k .number) s) (records n l) (wide-records n l (w .standing .fits))))
+        (λ a. rw (is-true (isContext (k .symbols) (k .depth) s) c))
 
-    counts-here : (i : Sample) → eight (sitting .count i s) ≡ countsOf i (recordAt p l)
-    counts-here i = eight-list (sitting .count i s) (countsOf i (recordAt p l)) (length-counts i (recordAt p l) long)
-        (λ a. rw (is-true (isContext (k .symbols) (k .depth) s) c, record-here))
-      where
-        long : length (recordAt p l) ≡ width
-        long = subst (λ (r : List ℕ). length r ≡ width) record-here (wide-lookup (keyOf (k .number) s) (records n l) (wide-records n l (w .standing .fits)))
+    pub table-under : tableOf (lookup (keyOf (k .number) s) (records n l)) ≡ table sitting s
+    table-under = ap₂ {C = List (List ℕ)} (λ a b. a ∷ b ∷ []) (sym (counts-are first)) (sym (counts-are second))
 
-    pub table-here : tableOf (recordAt p l) ≡ table sitting s
-    table-here = ap₂ {C = List (List ℕ)} (λ a b. a ∷ b ∷ []) (sym (counts-here first)) (sym (counts-here second))
+    -- .. that is, of the record at its place p
+    pub table-here : (p : ℕ) → p < n → getD l (width * p) 0 ≡ keyOf (k .number) s → tableOf (recordAt p l) ≡ table sitting s
+    table-here p here is = ap tableOf (sym (lookup-found (keyOf (k .number) s) n p l (w .standing .rising) here is ∙ part-at width n p l here)) ∙ table-under
 
   -- ---- its losses
 

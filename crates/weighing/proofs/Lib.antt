@@ -10,3 +10,4 @@ pub mod Whole
 pub mod Planning
 pub mod Sheets
 pub mod Putting
+pub mod Reporting
