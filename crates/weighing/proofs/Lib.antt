@@ -11,3 +11,4 @@ pub mod Planning
 pub mod Sheets
 pub mod Putting
 pub mod Reporting
+pub mod Onward

@@ -115,3 +115,49 @@ module _ (k : Desk) (costs : ByKind) (n : ℕ) (l kept : List ℕ) (top : ℕ) (
           counted = subst (λ (t : List (List ℕ)). sumOf (rowIn t first) + sumOf (rowIn t second) ≤ mostCounted) (sym table-is) (table-small k n l (q .weighable) s);
         };
       }
+
+  -- ---- what their writing gives
+
+  module _ (before after : List ℕ) (r : Step) (g : WroteNumbers n l kept costs before after c (k .depth - c .left) to r) where
+    pub next-is : r .way ≡ plan .next
+    next-is = g .way-is ∙ ap (λ (p : Plan). p .next) plan-is
+
+    pub wrote-here : Written before after to (sheetFor x (hereOf plan s)) (r .to)
+    wrote-here = subst (λ (rows : List ℕ). Written before after to rows (r .to)) numbers-are (g .written)
+
+    -- nothing is wanted of the children
+    pub stopped : goesOn (r .way) ≡ false → Written before after to (sheetFor x (wanted (k .symbols) (c .left) f (c .way) s)) (r .to)
+    stopped e =
+        subst (λ (rows : List ℕ). Written before after to rows (r .to))
+        (ap (sheetFor x) (sym (wanted-stop (k .symbols) f s (c .left) (c .way) (ap goesOn (sym next-is) ∙ e)))) wrote-here
+
+    -- something is
+    module _ (e : goesOn (r .way) ≡ true) where
+      pub symbols-left : c .left ≡ 0 → ⊥
+      symbols-left = goes-deeper (k .symbols) f s (c .left) (c .way) (ap goesOn (sym next-is) ∙ e)
+
+      -- the rows of all children, in order
+      abbrev pub childRows : List ℕ
+      childRows = sheetFor x (gather (k .symbols) (λ a. wanted (k .symbols) (c .left - 1) f (r .way) (older s a)))
+
+      all-rows : sheetFor x (wanted (k .symbols) (c .left) f (c .way) s) ≡ sheetFor x (hereOf plan s) ++ childRows
+      all-rows = go (c .left) refl
+        where
+          go : (d : ℕ) → c .left ≡ d → sheetFor x (wanted (k .symbols) (c .left) f (c .way) s) ≡ sheetFor x (hereOf plan s) ++ childRows
+          go zero z = absurd (symbols-left z)
+          go (suc d) z =
+              let h : c .left - 1 ≡ d = omega arith in
+              ap (λ (m : ℕ). sheetFor x (wanted (k .symbols) m f (c .way) s)) z
+              ∙ ap (sheetFor x) (wanted-split (k .symbols) f s d (c .way))
+              ∙ sheet-append x (hereOf (planOf (c .way) (markAt (k .symbols) (suc d) f s)) s) _
+              ∙ ap (λ (m : ℕ). sheetFor x (hereOf (planOf (c .way) (markAt (k .symbols) m f s)) s) ++ sheetFor x (gather (k .symbols) (λ a. wanted (k .symbols) d f (planOf (c .way) (markAt (k .symbols) m f s) .next) (older s a)))) (sym z)
+              ∙ ap₂ (λ (m : ℕ) (w : Way). sheetFor x (hereOf plan s) ++ sheetFor x (gather (k .symbols) (λ a. wanted (k .symbols) m f w (older s a)))) (sym h) (sym next-is)
+
+      pub child-room : r .to + length childRows ≤ top
+      child-room = omega (arith, q .room, ap length all-rows, length-append (sheetFor x (hereOf plan s)) childRows, wrote-here .past-is)
+
+      pub finished : length before ≡ top → (cur : List ℕ) (past : ℕ) → Written after cur (r .to) childRows past
+          → Written before cur to (sheetFor x (wanted (k .symbols) (c .left) f (c .way) s)) past
+      finished long cur past h =
+          subst (λ (rows : List ℕ). Written before cur to rows past) (sym all-rows)
+          (written-append before after cur to (r .to) past (sheetFor x (hereOf plan s)) childRows (omega (arith, here-room)) wrote-here h)

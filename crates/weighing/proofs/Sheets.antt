@@ -60,6 +60,11 @@ unfolding sheetOf
 sheet-append x [] qs = refl
 sheet-append x (p ∷ ps) qs = ap (λ (l : List ℕ). numbersOf (rowOf x p) ++ l) (sheet-append x ps qs) ∙ sym (append-assoc (numbersOf (rowOf x p)) (sheetFor x ps) (sheetFor x qs))
 
+-- one child more
+pub gather-next : (x : Sitting) (a : ℕ) (g : ℕ → List Member) → sheetFor x (gather (suc a) g) ≡ sheetFor x (gather a g) ++ sheetFor x (g a)
+unfolding gather
+gather-next x a g = sheet-append x (gather a g) (g a)
+
 -- a child's rows have room where those of all children have
 pub gather-room : (x : Sitting) (A a : ℕ) (g : ℕ → List Member) → a < A → length (sheetFor x (gather a g)) + length (sheetFor x (g a)) ≤ length (sheetFor x (gather A g))
 unfolding gather
