@@ -48,6 +48,10 @@ pub record Roomy (top to size : ℕ) (counts : List (List ℕ)) : Type 0 where
   pub room : to + size ≤ top
   pub counted : sumOf (rowIn counts first) + sumOf (rowIn counts second) ≤ mostCounted
 
+-- the numbers of the rows that are wanted at s and below it
+abbrev pub rowsFrom : Desk → ℕ → List ℕ → List ℕ → Spot → List ℕ
+rowsFrom k n l s c = sheetFor (sittingIn k (records n l)) (wanted (k .symbols) (c .left) (losses (sittingIn k (records n l))) (c .way) s)
+
 -- what the writing of the rows at the context s and below it asks, on a sheet of `top` numbers from place `to` on
 pub record CanWrite (k : Desk) (costs : ByKind) (n : ℕ) (l kept : List ℕ) (top : ℕ) (s : List ℕ) (c : Spot) (to : ℕ) : Type 0 where
   pub weighable : Weighable k n l
@@ -59,7 +63,7 @@ pub record CanWrite (k : Desk) (costs : ByKind) (n : ℕ) (l kept : List ℕ) (t
   pub left-is : length s + c .left ≡ k .depth
   pub code-is : c .code ≡ codeOf s
   pub power-is : c .power ≡ 8 ^ length s
-  pub room : to + length (sheetFor (sittingIn k (records n l)) (wanted (k .symbols) (c .left) (losses (sittingIn k (records n l))) (c .way) s)) ≤ top
+  pub room : to + length (rowsFrom k n l s c) ≤ top
 
 -- the decision under a key: the one kept beside its record, or that of a leaf that costs this
 abbrev pub keptMark : ℕ → List ℕ → List ℕ → ByKind → ℕ → ℕ

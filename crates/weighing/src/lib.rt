@@ -12,7 +12,7 @@ ghost use Rattle.estimate.specs.Table.{LossesOf};
 ghost use Rattle.records.specs.Held.{held, recordAt, tableOf, Standing};
 ghost use Rattle.weighing.specs.Trees.{choice};
 ghost use Rattle.weighing.specs.Plans.{goesOn, ownPlan, planOf};
-ghost use Rattle.weighing.specs.Writing.{Written, numbersIf, numbersHere, Roomy, keptMark, CanWriteHere, WroteNumbers};
+ghost use Rattle.weighing.specs.Writing.{Written, numbersIf, numbersHere, Roomy, rowsFrom, CanWrite, CanWriteHere, WroteNumbers, keptMark, CanReport, Reports};
 ghost use Rattle.weighing.specs.Weighs.{CanWeigh, Weighs};
 ghost use Rattle.weighing.specs.Visit.{Stands, Countable, Ready, Visited, mostLoss, Small, LeafOf, SplitOf, SumOf, Fits, NoneOf, ChildOf};
 
@@ -326,6 +326,78 @@ fn smaller(x: u64, y: u64) -> u64
     ensures { λ r. ⌜ (r ≡ min x y) × (r ≤ x) ⌝ }
 {
     if x <= y { x } else { y }
+}
+
+// Writes the rows of a desk's report at the beginning of the sheet, by the decisions that `weigh` kept beside the records.
+pub fn write_rows(numbers: &[u32], n: usize, desk: Desk, kept: &[u8], sheet: &mut [u32])
+    requires { ⌜ CanReport desk n (now numbers) (now kept) (now sheet) ⌝ }
+    ensures { λ _. ⌜ Reports desk n (now (numbers .entry)) (now (sheet .entry)) (now (sheet .exit)) ⌝ }
+{
+    let costs = estimate::costs_of(desk.symbols, desk.n, desk.m);
+    let way = Way {
+        joint: true,
+        first: false,
+        second: false,
+    };
+    let root = Spot {
+        key: desk.number * DESK_SPAN,
+        span: DESK_SPAN,
+        left: desk.depth,
+        code: 0,
+        power: 1,
+        way,
+    };
+    let _ = write_from(numbers, n, kept, desk, costs, sheet, root, 0);
+}
+
+// Writes the rows at a context and below it; the place after them.
+fn write_from(
+    numbers: &[u32],
+    n: usize,
+    kept: &[u8],
+    desk: Desk,
+    costs: ByKind,
+    sheet: &mut [u32],
+    spot: Spot,
+    to: usize,
+) -> usize
+    requires { ⌜ CanWrite desk costs n (now numbers) (now kept) (length (now sheet)) (contextOf (spot .key)) spot to ⌝ }
+    ensures { λ r. ⌜ Written (now (sheet .entry)) (now (sheet .exit)) to (rowsFrom desk n (now (numbers .entry)) (contextOf (spot .key)) spot) r ⌝ }
+{
+    let step = write_here(
+        numbers,
+        n,
+        kept,
+        costs,
+        sheet,
+        spot,
+        desk.depth - spot.left,
+        to,
+    );
+    let way = step.way;
+    let mut past = step.to;
+    if !goes_on(way) {
+        return past;
+    }
+    let span = spot.span / 8;
+    let mut key = spot.key + 1;
+    let mut code = spot.code;
+    let mut a: u32 = 0;
+    while a < desk.symbols {
+        let child = Spot {
+            key,
+            span,
+            left: spot.left - 1,
+            code,
+            power: 8 * spot.power,
+            way,
+        };
+        past = write_from(numbers, n, kept, desk, costs, sheet, child, past);
+        key += span;
+        code += spot.power;
+        a += 1;
+    }
+    past
 }
 
 // The rows at one context, and what is wanted of its children.
