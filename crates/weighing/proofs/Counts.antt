@@ -1,24 +1,23 @@
 -- What the records of a desk count: the table of a held context, its losses, and that an unseen context has the bare costs. Assumes nothing.
-use Prim.Native.Nat.{ℕ, zero, suc, _+_, _-_, _*_, _≤_, _<_}
-use mathlib.Core.Path.{_≡_, refl, sym, ap, ap₂, subst, _∙_}
-use mathlib.Core.Bool.{Bool, true, false, cond}
+use Prim.Native.Nat.{ℕ, _+_, _-_, _*_, _≤_, _<_}
+use mathlib.Core.Path.{_≡_, sym, ap, ap₂, subst, _∙_}
+use mathlib.Core.Bool.{false}
 use mathlib.Core.List.{List, [], _∷_, _++_, append-nil}
 use native.Mathlib.Omega.{arith}
 use native.Mathlib.Nat.{mul-le-mul}
-use lib.ListN.{length, getD, take, drop}
+use lib.ListN.{length, getD}
 use lib.Seq.{ext-getD}
 use lib.Dec.{T}
 use Rattle.numbers.specs.Limits.{mostSymbols, mostCounted, topLog}
 use Rattle.numbers.specs.Sum.{sum}
 use Rattle.numbers.proofs.Tests.{is-true, is-false, T?}
 use Rattle.numbers.proofs.Sums.{sum-add, sum-past}
-use Rattle.logarithm.specs.Logarithm.{L}
 use Rattle.logarithm.proofs.Laws.{L-top, weight-top}
 use Rattle.contexts.specs.Context.{isContext}
 use Rattle.contexts.specs.Keys.{keyOf}
 use Rattle.contexts.specs.Sitting.{Sample, first, second, Sitting, totalIn, eight, table, rowIn, sumOf}
 use Rattle.estimate.specs.Trees.{Kind, shared, own, from}
-use Rattle.estimate.specs.Score.{counts, sizeOf, cost, whole, weights}
+use Rattle.estimate.specs.Score.{counts, sizeOf, cost}
 use Rattle.estimate.specs.Recursion.{spread, losses}
 use Rattle.estimate.specs.Table.{CostsOf, LossesOf}
 use Rattle.estimate.specs.declared.ByKind.{ByKind}
@@ -31,7 +30,7 @@ use Rattle.records.proofs.Parts.{part-at, wide-records}
 use Rattle.records.proofs.Finding.{lookup-found}
 use Rattle.records.proofs.Counting.{length-counts, count-absent, wide-lookup}
 use Rattle.weighing.specs.declared.Desk.{Desk}
-use Rattle.weighing.specs.Sitting.{sizes, sittingIn, Weighable}
+use Rattle.weighing.specs.Sitting.{sittingIn, Weighable}
 use Rattle.weighing.specs.Visit.{mostLoss, Small}
 use Rattle.weighing.proofs.Cursor.{held-shorter}
 

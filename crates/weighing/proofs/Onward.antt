@@ -1,17 +1,15 @@
 -- The turns of the writing over the children of a context, one symbol after the other. Assumes nothing.
-use Prim.Native.Nat.{ℕ, zero, suc, _+_, _-_, _*_, _/_, _^_, _≤_, _<_}
-use mathlib.Core.Path.{_≡_, refl, sym, ap, ap₂, subst, _∙_}
+use Prim.Native.Nat.{ℕ, suc, _+_, _-_, _*_, _/_, _^_, _≤_, _<_}
+use mathlib.Core.Path.{_≡_, refl, sym, ap, subst, _∙_}
 use mathlib.Core.List.{List, [], _∷_, _++_}
 use native.Mathlib.Omega.{arith}
 use native.Mathlib.Numerals.{add-one}
 use native.Mathlib.Nat.{mul-le-mul-right, pow-suc}
 use lib.ListN.{length, length-append}
-use lib.Dec.{T}
-use Rattle.numbers.specs.Limits.{mostSymbols, deepest}
-use Rattle.contexts.specs.Context.{isContext, codeOf}
-use Rattle.contexts.specs.Keys.{keyOf, deskSpan, contextOf}
+use Rattle.numbers.specs.Limits.{deepest}
+use Rattle.contexts.specs.Context.{codeOf}
+use Rattle.contexts.specs.Keys.{keyOf, contextOf}
 use Rattle.contexts.specs.Sitting.{Sitting}
-use Rattle.contexts.proofs.Strings.{context-length}
 use Rattle.contexts.proofs.Codes.{code-lt}
 use Rattle.contexts.proofs.KeyOrder.{contextOf-key}
 use Rattle.estimate.specs.Recursion.{Losses, losses}
@@ -29,7 +27,7 @@ use Rattle.weighing.specs.Sitting.{sittingIn}
 use Rattle.weighing.specs.Visit.{Ready}
 use Rattle.weighing.specs.Plans.{wanted}
 use Rattle.weighing.specs.Writing.{sheetFor, Written, CanWrite}
-use Rattle.weighing.proofs.Blocks.{context-older, key-older}
+use Rattle.weighing.proofs.Blocks.{key-older}
 use Rattle.weighing.proofs.Cursor.{within}
 use Rattle.weighing.proofs.Turning.{pow-le, after, deeper, room, step-is, step-small, key-small, child-context}
 use Rattle.weighing.proofs.Sheets.{written-none, written-append, gather-next, gather-room}

@@ -1,15 +1,14 @@
 -- The ways through the functions that read a decision and put rows, as the code has them. Assumes nothing.
-use Prim.Native.Nat.{ℕ, _+_, _-_, _/_, _%_, _≤_, _<_}
+use Prim.Native.Nat.{ℕ, _+_, _-_, _/_, _%_, _≤_}
 use mathlib.Core.Path.{_≡_, refl, sym, ap, ap₂, subst₂, _∙_}
-use mathlib.Core.Bool.{Bool, true, false, cond, not, _&&_}
+use mathlib.Core.Bool.{Bool, true, false, not, _&&_}
 use mathlib.Core.List.{List, [], _∷_, _++_, append-nil}
 use native.Mathlib.Omega.{arith}
 use borrow.Author.Tests.{eq-eqb, ne-eqb}
 use lib.ListN.{length, take, drop, length-append, length-take, drop-of-length-le}
-use lib.Seq.{drop-drop, length-take-le}
+use lib.Seq.{drop-drop}
 use lib.Dec.{eqb}
-use Rattle.numbers.specs.Limits.{mostCounted}
-use Rattle.contexts.specs.Sitting.{first, second, eight, rowIn, sumOf}
+use Rattle.contexts.specs.Sitting.{first, second, eight}
 use Rattle.estimate.specs.Table.{countsIn}
 use Rattle.rows.specs.Rows.{rowWidth, kindOf}
 use Rattle.weighing.specs.declared.Way.{Way}

@@ -1,37 +1,33 @@
 -- The writing of the rows at a context and below it. Assumes nothing.
-use Prim.Native.Nat.{ℕ, zero, suc, _+_, _-_, _*_, _/_, _^_, _≤_, _<_}
+use Prim.Native.Nat.{ℕ, zero, suc, _+_, _-_, _≤_}
 use mathlib.Core.Path.{_≡_, refl, sym, ap, ap₂, subst, _∙_}
 use mathlib.Core.Bool.{Bool, true, false, cond, not}
-use mathlib.Core.List.{List, [], _∷_, _++_}
+use mathlib.Core.List.{List, _++_}
 use native.Mathlib.Omega.{arith}
 use lib.ListN.{length, getD, length-append}
 use lib.Dec.{T, leb}
 use Rattle.numbers.specs.Limits.{mostCounted}
 use Rattle.numbers.specs.Sum.{one}
 use Rattle.numbers.proofs.Tests.{of-true}
-use Rattle.contexts.specs.Context.{codeOf}
 use Rattle.contexts.specs.Keys.{keyOf, deskOf}
 use Rattle.contexts.specs.Sitting.{first, second, Sitting, table, rowIn, sumOf}
 use Rattle.contexts.proofs.KeyOrder.{deskOf-key, contextOf-key}
 use Rattle.estimate.specs.Trees.{shared, own}
 use Rattle.estimate.specs.Recursion.{Losses, losses}
 use Rattle.estimate.specs.declared.ByKind.{ByKind}
-use Rattle.estimate.proofs.Tables.{at}
 use Rattle.rows.specs.Members.{gather}
 use Rattle.rows.specs.Walk.{older}
-use Rattle.records.specs.Records.{width, records, keys, lookup}
+use Rattle.records.specs.Records.{records, keys, lookup}
 use Rattle.records.specs.Held.{rank, held, tableOf}
 use Rattle.weighing.specs.declared.Desk.{Desk}
-use Rattle.weighing.specs.declared.Context.{Context}
 use Rattle.weighing.specs.declared.Plan.{Plan}
 use Rattle.weighing.specs.declared.Spot.{Spot}
 use Rattle.weighing.specs.declared.Step.{Step}
 use Rattle.weighing.specs.declared.Way.{Way}
-use Rattle.weighing.specs.Sitting.{sittingIn, Weighable}
+use Rattle.weighing.specs.Sitting.{sittingIn}
 use Rattle.weighing.specs.Trees.{markAt, markOf}
-use Rattle.weighing.specs.Visit.{Ready, Small}
 use Rattle.weighing.specs.Plans.{wanted, goesOn, planOf, hereOf}
-use Rattle.weighing.specs.Writing.{sheetFor, Written, numbersHere, Roomy, keptMark, keptPlan, CanWrite, CanWriteHere, WroteNumbers}
+use Rattle.weighing.specs.Writing.{sheetFor, Written, numbersHere, keptMark, keptPlan, CanWrite, CanWriteHere, WroteNumbers}
 use Rattle.weighing.proofs.Cursor.{within}
 use Rattle.weighing.proofs.Flat.{mark-flat}
 use Rattle.weighing.proofs.Counts.{table-under, table-small, costs-small, absent-flat, absent-losses}

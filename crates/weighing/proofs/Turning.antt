@@ -5,19 +5,17 @@ use mathlib.Core.Bool.{true, not}
 use mathlib.Core.List.{List, [], _∷_}
 use native.Mathlib.Omega.{arith}
 use native.Mathlib.Numerals.{add-one}
-use native.Mathlib.Nat.{mul-le-mul-right, mul-le-mul-left, pow-suc}
+use native.Mathlib.Nat.{mul-le-mul-right, pow-suc}
 use lib.ListN.{length, getD, set, length-append}
 use lib.Dec.{T, leb}
 use Rattle.numbers.specs.Limits.{mostSymbols, deepest}
 use Rattle.numbers.specs.Sum.{one, sum}
-use Rattle.numbers.proofs.Orders.{Leb, le, gt, lebView}
 use Rattle.numbers.proofs.Sums.{sum-next, sum-mono, sum-same}
 use Rattle.contexts.specs.Context.{isContext}
-use Rattle.contexts.specs.Keys.{digits, keyOf, deskSpan, contextOf}
-use Rattle.contexts.proofs.Strings.{context-length}
+use Rattle.contexts.specs.Keys.{keyOf, deskSpan, contextOf}
 use Rattle.contexts.proofs.KeyOrder.{pow-pos, contextOf-key, contextKey-lt}
 use Rattle.contexts.specs.Sitting.{first, second}
-use Rattle.estimate.specs.Trees.{Kind, shared, own, from}
+use Rattle.estimate.specs.Trees.{Kind, shared, own}
 use Rattle.estimate.specs.Recursion.{Losses, losses}
 use Rattle.estimate.specs.declared.ByKind.{ByKind}
 use Rattle.estimate.proofs.Tables.{at}
@@ -27,9 +25,9 @@ use Rattle.records.specs.Held.{rank, held}
 use Rattle.weighing.specs.declared.Desk.{Desk}
 use Rattle.weighing.specs.declared.Context.{Context}
 use Rattle.weighing.specs.declared.Weighed.{Weighed}
-use Rattle.weighing.specs.Sitting.{sittingIn, Weighable}
-use Rattle.weighing.specs.Trees.{leastAt, membersAt, choice, markAt, markOf}
-use Rattle.weighing.specs.Visit.{spanOf, endOf, Ready, Marked, Apart, Visited, mostLoss, SplitOf, SumOf, Fits, ChildOf}
+use Rattle.weighing.specs.Sitting.{sittingIn}
+use Rattle.weighing.specs.Trees.{leastAt, membersAt, choice, markOf}
+use Rattle.weighing.specs.Visit.{endOf, Ready, Marked, Apart, Visited, mostLoss, SplitOf, SumOf, Fits, ChildOf}
 use Rattle.weighing.proofs.Cursor.{turnKey, within, end-within, turn-at, turns-past}
 use Rattle.records.proofs.Rising.{rank-mono}
 use Rattle.weighing.proofs.Blocks.{begins-self, block-key, context-older, key-older}

@@ -1,16 +1,14 @@
 -- A whole weighing: the visit to the empty context of a desk. Assumes nothing.
-use Prim.Native.Nat.{ℕ, _+_, _*_, _≤_, _<_}
+use Prim.Native.Nat.{ℕ, _+_, _*_, _≤_}
 use mathlib.Core.Path.{_≡_, refl, sym, ap, subst, _∙_}
 use mathlib.Core.Bool.{true, false}
 use mathlib.Core.List.{List, [], _++_}
 use native.Mathlib.Omega.{arith}
 use native.Mathlib.Nat.{zero-add}
-use lib.ListN.{length, getD, drop, length-map}
-use lib.Dec.{leb}
+use lib.ListN.{length, drop, length-map}
 use Rattle.numbers.specs.Limits.{deepest}
-use Rattle.numbers.proofs.Orders.{Leb, le, gt, lebView}
 use Rattle.contexts.specs.Context.{isContext, codeOf}
-use Rattle.contexts.specs.Keys.{deskSpan, keyOf, deskOf, contextOf}
+use Rattle.contexts.specs.Keys.{deskSpan, keyOf, contextOf}
 use Rattle.contexts.specs.Sitting.{first, second}
 use Rattle.contexts.proofs.KeyOrder.{digits-nil, contextOf-key}
 use Rattle.estimate.specs.Trees.{shared, own}
@@ -20,17 +18,15 @@ use Rattle.estimate.specs.declared.ByKind.{ByKind}
 use Rattle.rows.specs.Members.{members}
 use Rattle.rows.specs.Rows.{rowOf, sheetOf, reportOf}
 use Rattle.rows.proofs.Walking.{walk-all}
-use Rattle.records.specs.Records.{width, records, keys}
+use Rattle.records.specs.Records.{records, keys}
 use Rattle.records.specs.Held.{rank}
 use Rattle.records.proofs.Rising.{up-to-middle, above-middle}
 use Rattle.weighing.specs.declared.Desk.{Desk}
-use Rattle.weighing.specs.declared.Context.{Context}
 use Rattle.weighing.specs.declared.Weighed.{Weighed}
-use Rattle.weighing.specs.declared.Least.{Least}
 use Rattle.weighing.specs.declared.Spot.{Spot}
 use Rattle.weighing.specs.Sitting.{sittingIn, Weighable}
-use Rattle.weighing.specs.Trees.{leastAt, membersAt, markOf}
-use Rattle.weighing.specs.Visit.{spanOf, endOf, Ready, Visited}
+use Rattle.weighing.specs.Trees.{leastAt, membersAt}
+use Rattle.weighing.specs.Visit.{endOf, Ready, Visited}
 use Rattle.weighing.specs.Weighs.{Decided, Weighs}
 use Rattle.weighing.specs.Plans.{wanted}
 use Rattle.weighing.specs.Writing.{sheetFor, Written, rowsFrom, CanWrite, CanReport, Reports}

@@ -2,7 +2,7 @@
 use mathlib.Core.Path.{_≡_}
 use mathlib.Core.Bool.{Bool, cond, not}
 use mathlib.Core.List.{List, [], _∷_, _++_, map}
-use Prim.Native.Nat.{ℕ, _+_, _-_, _*_, _^_, _≤_, _<_}
+use Prim.Native.Nat.{ℕ, _+_, _^_, _≤_}
 use lib.ListN.{length, take, drop, getD}
 use lib.Dec.{T, leb}
 use Rattle.numbers.specs.Limits.{mostCounted}
@@ -14,7 +14,7 @@ use Rattle.estimate.specs.Recursion.{losses}
 use Rattle.estimate.specs.Table.{countsIn, CostsOf}
 use Rattle.estimate.specs.declared.ByKind.{ByKind}
 use Rattle.rows.specs.Members.{Member}
-use Rattle.rows.specs.Rows.{rowOf, rowWidth, reportOf, sheetOf, kindOf}
+use Rattle.rows.specs.Rows.{rowOf, reportOf, sheetOf, kindOf}
 use Rattle.records.specs.Records.{records, keys, lookup}
 use Rattle.records.specs.Held.{rank, held, tableOf, Standing}
 use Rattle.weighing.specs.declared.Desk.{Desk}

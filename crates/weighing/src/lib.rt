@@ -2,19 +2,19 @@
 use estimate::ByKind;
 ghost use mathlib.Core.Path.{_≡_};
 ghost use mathlib.Core.Bool.{cond, not, _&&_};
-ghost use Prim.Native.Nat.{ℕ, _+_, _*_, _≤_, _<_, _^_, min};
+ghost use Prim.Native.Nat.{_+_, _*_, _≤_, _<_, _^_, min};
 ghost use lib.ListN.{length};
 ghost use lib.Dec.{leb};
 ghost use Rattle.numbers.specs.Sum.{one};
 ghost use Rattle.contexts.specs.Keys.{contextOf};
-ghost use Rattle.records.specs.Records.{width, records};
+ghost use Rattle.records.specs.Records.{records};
 ghost use Rattle.estimate.specs.Table.{LossesOf};
 ghost use Rattle.records.specs.Held.{held, recordAt, tableOf, Standing};
 ghost use Rattle.weighing.specs.Trees.{choice};
 ghost use Rattle.weighing.specs.Plans.{goesOn, ownPlan, planOf};
 ghost use Rattle.weighing.specs.Writing.{Written, numbersIf, numbersHere, Roomy, rowsFrom, CanWrite, CanWriteHere, WroteNumbers, keptMark, CanReport, Reports};
 ghost use Rattle.weighing.specs.Weighs.{CanWeigh, Weighs};
-ghost use Rattle.weighing.specs.Visit.{Stands, Countable, Ready, Visited, mostLoss, Small, LeafOf, SplitOf, SumOf, Fits, NoneOf, ChildOf};
+ghost use Rattle.weighing.specs.Visit.{Stands, Countable, Ready, Visited, Small, LeafOf, SplitOf, SumOf, Fits, NoneOf, ChildOf};
 
 const WIDTH: usize = 24;
 

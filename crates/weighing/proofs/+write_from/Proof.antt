@@ -2,12 +2,11 @@
 use mathlib.Core.Path.{_≡_, refl, sym, subst, subst₂, _∙_}
 use mathlib.Core.Bool.{true}
 use mathlib.Core.List.{List}
-use Prim.Native.Nat.{ℕ, _+_, _-_, _*_, _/_, _≤_, _<_}
+use Prim.Native.Nat.{ℕ, _-_, _*_, _/_, _<_}
 use native.Mathlib.Omega.{arith}
 use borrow.Author.Tests.{not-true, not-false}
 use lib.ListN.{length}
 use Rattle.contexts.specs.Keys.{contextOf}
-use Rattle.rows.specs.Walk.{older}
 use Rattle.weighing.specs.Plans.{goesOn}
 use Rattle.weighing.specs.Writing.{CanWrite, Written, rowsFrom}
 use Rattle.weighing.proofs.Reporting as reporting

@@ -1,6 +1,5 @@
 -- `weighing::write_here` meets its contract. Assumes nothing.
 use mathlib.Core.Path.{_≡_, ap, _∙_}
-use Prim.Native.Nat.{ℕ}
 use Rattle.weighing.specs.declared.Plan.{Plan}
 use Rattle.weighing.specs.Plans.{planOf}
 use Rattle.weighing.specs.Writing.{keptPlan}
