@@ -1,4 +1,5 @@
-// The weighing of a desk's records: what its trees lose at least, how many rows the report has, and the decisions, kept beside the records.
+// The weighing of a desk's records: what its trees lose at least, how many rows its report has, the decisions, kept beside the records,
+// and the rows written by them.
 use estimate::ByKind;
 ghost use mathlib.Core.Path.{_≡_};
 ghost use mathlib.Core.Bool.{cond, not, _&&_};
@@ -31,21 +32,6 @@ pub struct Desk {
     pub m: u32,
 }
 
-// A context: its key, how many keys its block has, and how many symbols are left below it.
-pub struct Context {
-    pub key: u32,
-    pub span: u32,
-    pub left: u32,
-}
-
-// What each tree at a context loses at least, how many members it has, and the place of the first record past the context's block.
-// Under `shared` stand both trees together.
-pub struct Weighed {
-    pub least: ByKind,
-    pub rows: ByKind,
-    pub next: usize,
-}
-
 // What the trees of a desk's sitting lose at least, each alone and both together, and how many rows its report has.
 pub struct Least {
     pub first: u64,
@@ -76,6 +62,45 @@ pub fn weigh(numbers: &[u32], n: usize, desk: Desk, kept: &mut [u8]) -> Least
         joint: least.shared,
         rows: rows.shared,
     }
+}
+
+// Writes the rows of a desk's report at the beginning of the sheet, by the decisions that `weigh` kept beside the records.
+pub fn write_rows(numbers: &[u32], n: usize, desk: Desk, kept: &[u8], sheet: &mut [u32])
+    requires { ⌜ CanReport desk n (now numbers) (now kept) (now sheet) ⌝ }
+    ensures { λ _. ⌜ Reports desk n (now (numbers .entry)) (now (sheet .entry)) (now (sheet .exit)) ⌝ }
+{
+    let costs = estimate::costs_of(desk.symbols, desk.n, desk.m);
+    let way = Way {
+        joint: true,
+        first: false,
+        second: false,
+    };
+    let root = Spot {
+        key: desk.number * DESK_SPAN,
+        span: DESK_SPAN,
+        left: desk.depth,
+        code: 0,
+        power: 1,
+        way,
+    };
+    let _ = write_from(numbers, n, kept, desk, costs, sheet, root, 0);
+}
+
+// ---- the weighing, from the leaves to the root
+
+// A context: its key, how many keys its block has, and how many symbols are left below it.
+pub struct Context {
+    pub key: u32,
+    pub span: u32,
+    pub left: u32,
+}
+
+// What each tree at a context loses at least, how many members it has, and the place of the first record past the context's block.
+// Under `shared` stand both trees together.
+pub struct Weighed {
+    pub least: ByKind,
+    pub rows: ByKind,
+    pub next: usize,
 }
 
 // The trees at a context, whose place the walk has come to. A context that is not held is answered without a descent.
@@ -118,37 +143,6 @@ fn visit(
     }
     kept[at] = split_mark(own, kids.least);
     as_split(own, kids)
-}
-
-// Which members are wanted at a context and below it: those of both trees together, or those of the own trees that still go on.
-pub struct Way {
-    pub joint: bool,
-    pub first: bool,
-    pub second: bool,
-}
-
-// Which rows stand at a context, and what is wanted of its children.
-pub struct Plan {
-    pub shared: bool,
-    pub first: bool,
-    pub second: bool,
-    pub next: Way,
-}
-
-// A context with its code, 8 to the power of its length, and what is wanted of it.
-pub struct Spot {
-    pub key: u32,
-    pub span: u32,
-    pub left: u32,
-    pub code: u32,
-    pub power: u32,
-    pub way: Way,
-}
-
-// What is wanted of the children, and the next number of the sheet.
-pub struct Step {
-    pub way: Way,
-    pub to: usize,
 }
 
 // Whether the record at the place of a key has it.
@@ -281,7 +275,8 @@ fn own_rows(leaf: u64, split: u64, below: u64) -> u64
 fn joint_rows(leaf: u64, apart: u64, split: u64, both: u64, below: u64) -> u64
     ensures { λ r. ⌜ r ≡ cond (leb leaf (min apart split)) 1 (cond (leb apart split) both below) ⌝ }
 {
-    if leaf <= smaller(apart, split) {
+    let other = smaller(apart, split);
+    if leaf <= other {
         return 1;
     }
     if apart <= split { both } else { below }
@@ -328,26 +323,37 @@ fn smaller(x: u64, y: u64) -> u64
     if x <= y { x } else { y }
 }
 
-// Writes the rows of a desk's report at the beginning of the sheet, by the decisions that `weigh` kept beside the records.
-pub fn write_rows(numbers: &[u32], n: usize, desk: Desk, kept: &[u8], sheet: &mut [u32])
-    requires { ⌜ CanReport desk n (now numbers) (now kept) (now sheet) ⌝ }
-    ensures { λ _. ⌜ Reports desk n (now (numbers .entry)) (now (sheet .entry)) (now (sheet .exit)) ⌝ }
-{
-    let costs = estimate::costs_of(desk.symbols, desk.n, desk.m);
-    let way = Way {
-        joint: true,
-        first: false,
-        second: false,
-    };
-    let root = Spot {
-        key: desk.number * DESK_SPAN,
-        span: DESK_SPAN,
-        left: desk.depth,
-        code: 0,
-        power: 1,
-        way,
-    };
-    let _ = write_from(numbers, n, kept, desk, costs, sheet, root, 0);
+// ---- the writing, from the root to the leaves
+
+// Which members are wanted at a context and below it: those of both trees together, or those of the own trees that still go on.
+pub struct Way {
+    pub joint: bool,
+    pub first: bool,
+    pub second: bool,
+}
+
+// Which rows stand at a context, and what is wanted of its children.
+pub struct Plan {
+    pub shared: bool,
+    pub first: bool,
+    pub second: bool,
+    pub next: Way,
+}
+
+// A context with its code, 8 to the power of its length, and what is wanted of it.
+pub struct Spot {
+    pub key: u32,
+    pub span: u32,
+    pub left: u32,
+    pub code: u32,
+    pub power: u32,
+    pub way: Way,
+}
+
+// What is wanted of the children, and the next number of the sheet.
+pub struct Step {
+    pub way: Way,
+    pub to: usize,
 }
 
 // Writes the rows at a context and below it; the place after them.
