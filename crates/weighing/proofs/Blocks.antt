@@ -10,7 +10,7 @@ use Rattle.numbers.specs.Limits.{mostSymbols, deepest}
 use Rattle.numbers.proofs.Tests.{both, left, right}
 use Rattle.numbers.proofs.Orders.{less, same, more, order, eq→eqb}
 use Rattle.contexts.specs.Context.{isContext, begins}
-use Rattle.contexts.specs.Keys.{digits, deskSpan, contextKey, keyOf, deskOf}
+use Rattle.contexts.specs.Keys.{digits, deskSpan, keyOf}
 use Rattle.contexts.proofs.Strings.{newest-below, older-context, context-cons, context-length}
 use Rattle.contexts.proofs.KeyOrder.{Within, pow-pos, digits-nil, digits-lt, key-child}
 use Rattle.rows.specs.Walk.{older}

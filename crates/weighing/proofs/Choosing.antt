@@ -1,12 +1,11 @@
 -- The numbers that the code works out at one context are the model's: at a leaf, at an unseen context, and over children. Assumes nothing.
-use Prim.Native.Nat.{ℕ, zero, suc, _+_, _*_, _^_, _≤_, _<_, min}
-use mathlib.Core.Path.{_≡_, refl, sym, ap, ap₂, _∙_}
-use mathlib.Core.Bool.{Bool, cond, not}
+use Prim.Native.Nat.{ℕ, zero, suc, _+_, _*_, _<_, min}
+use mathlib.Core.Path.{_≡_, sym, ap, _∙_}
+use mathlib.Core.Bool.{cond, not}
 use mathlib.Core.List.{List}
-use native.Mathlib.Omega.{arith}
 use lib.ListN.{length}
 use lib.Dec.{leb}
-use Rattle.numbers.specs.Sum.{one, sum}
+use Rattle.numbers.specs.Sum.{one}
 use Rattle.contexts.specs.Sitting.{Sample, first, second}
 use Rattle.estimate.specs.Trees.{Kind, shared, own, from}
 use Rattle.estimate.specs.Recursion.{Losses}
@@ -17,7 +16,7 @@ use Rattle.weighing.specs.declared.Weighed.{Weighed}
 use Rattle.weighing.specs.Trees.{leastAt, membersAt, choice, markAt}
 use Rattle.weighing.specs.Visit.{LeafOf, SplitOf}
 use Rattle.weighing.proofs.Standing.{least-leaf, joint-leaf, members-leaf, members-joint-leaf, mark-leaf, lessBelow, membersBelow, least-split, joint-split, members-split, members-joint-split, mark-split}
-use Rattle.weighing.proofs.Flat.{least-flat, members-flat, mark-flat}
+use Rattle.weighing.proofs.Flat.{least-flat, members-flat}
 
 module _ (A : ℕ) (f : Losses) (s : List ℕ) (o : ByKind) (is : (t : Kind) → at o t ≡ f t s) where
   module _ (p : ℕ) (r : Weighed) (g : LeafOf o p r) where

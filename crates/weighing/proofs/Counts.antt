@@ -1,24 +1,23 @@
 -- What the records of a desk count: the table of a held context, its losses, and that an unseen context has the bare costs. Assumes nothing.
-use Prim.Native.Nat.{ℕ, zero, suc, _+_, _-_, _*_, _≤_, _<_}
-use mathlib.Core.Path.{_≡_, refl, sym, ap, ap₂, subst, _∙_}
-use mathlib.Core.Bool.{Bool, true, false, cond}
+use Prim.Native.Nat.{ℕ, _+_, _-_, _*_, _≤_, _<_}
+use mathlib.Core.Path.{_≡_, sym, ap, ap₂, subst, _∙_}
+use mathlib.Core.Bool.{false}
 use mathlib.Core.List.{List, [], _∷_, _++_, append-nil}
 use native.Mathlib.Omega.{arith}
 use native.Mathlib.Nat.{mul-le-mul}
-use lib.ListN.{length, getD, take, drop}
+use lib.ListN.{length, getD}
 use lib.Seq.{ext-getD}
 use lib.Dec.{T}
 use Rattle.numbers.specs.Limits.{mostSymbols, mostCounted, topLog}
 use Rattle.numbers.specs.Sum.{sum}
 use Rattle.numbers.proofs.Tests.{is-true, is-false, T?}
 use Rattle.numbers.proofs.Sums.{sum-add, sum-past}
-use Rattle.logarithm.specs.Logarithm.{L}
 use Rattle.logarithm.proofs.Laws.{L-top, weight-top}
 use Rattle.contexts.specs.Context.{isContext}
 use Rattle.contexts.specs.Keys.{keyOf}
 use Rattle.contexts.specs.Sitting.{Sample, first, second, Sitting, totalIn, eight, table, rowIn, sumOf}
 use Rattle.estimate.specs.Trees.{Kind, shared, own, from}
-use Rattle.estimate.specs.Score.{counts, sizeOf, cost, whole, weights}
+use Rattle.estimate.specs.Score.{counts, sizeOf, cost}
 use Rattle.estimate.specs.Recursion.{spread, losses}
 use Rattle.estimate.specs.Table.{CostsOf, LossesOf}
 use Rattle.estimate.specs.declared.ByKind.{ByKind}
@@ -31,7 +30,7 @@ use Rattle.records.proofs.Parts.{part-at, wide-records}
 use Rattle.records.proofs.Finding.{lookup-found}
 use Rattle.records.proofs.Counting.{length-counts, count-absent, wide-lookup}
 use Rattle.weighing.specs.declared.Desk.{Desk}
-use Rattle.weighing.specs.Sitting.{sizes, sittingIn, Weighable}
+use Rattle.weighing.specs.Sitting.{sittingIn, Weighable}
 use Rattle.weighing.specs.Visit.{mostLoss, Small}
 use Rattle.weighing.proofs.Cursor.{held-shorter}
 
@@ -52,21 +51,20 @@ module _ (k : Desk) (n : ℕ) (l : List ℕ) (w : Weighable k n l) where
   abbrev sitting : Sitting
   sitting = sittingIn k (records n l)
 
-  -- ---- a context that is held, at place p
+  -- ---- a context's table is that of what stands under its key
 
-  module _ (s : List ℕ) (c : T (isContext (k .symbols) (k .depth) s)) (p : ℕ) (here : p < n) (is : getD l (width * p) 0 ≡ keyOf (k .number) s) where
-    record-here : lookup (keyOf (k .number) s) (records n l) ≡ recordAt p l
-    record-here = lookup-found (keyOf (k .number) s) n p l (w .standing .rising) here is ∙ part-at width n p l here
+  module _ (s : List ℕ) (c : T (isContext (k .symbols) (k .depth) s)) where
+    counts-are : (i : Sample) → eight (sitting .count i s) ≡ countsOf i (lookup (keyOf (k .number) s) (records n l))
+    counts-are i = eight-list (sitting .count i s) (countsOf i (lookup (keyOf (k .number) s) (records n l)))
+        (length-counts i (lookup (keyOf (k .number) s) (records n l)) (wide-lookup (keyOf (k .number) s) (records n l) (wide-records n l (w .standing .fits))))
+        (λ a. rw (is-true (isContext (k .symbols) (k .depth) s) c))
 
-    counts-here : (i : Sample) → eight (sitting .count i s) ≡ countsOf i (recordAt p l)
-    counts-here i = eight-list (sitting .count i s) (countsOf i (recordAt p l)) (length-counts i (recordAt p l) long)
-        (λ a. rw (is-true (isContext (k .symbols) (k .depth) s) c, record-here))
-      where
-        long : length (recordAt p l) ≡ width
-        long = subst (λ (r : List ℕ). length r ≡ width) record-here (wide-lookup (keyOf (k .number) s) (records n l) (wide-records n l (w .standing .fits)))
+    pub table-under : tableOf (lookup (keyOf (k .number) s) (records n l)) ≡ table sitting s
+    table-under = ap₂ {C = List (List ℕ)} (λ a b. a ∷ b ∷ []) (sym (counts-are first)) (sym (counts-are second))
 
-    pub table-here : tableOf (recordAt p l) ≡ table sitting s
-    table-here = ap₂ {C = List (List ℕ)} (λ a b. a ∷ b ∷ []) (sym (counts-here first)) (sym (counts-here second))
+    -- .. that is, of the record at its place p
+    pub table-here : (p : ℕ) → p < n → getD l (width * p) 0 ≡ keyOf (k .number) s → tableOf (recordAt p l) ≡ table sitting s
+    table-here p here is = ap tableOf (sym (lookup-found (keyOf (k .number) s) n p l (w .standing .rising) here is ∙ part-at width n p l here)) ∙ table-under
 
   -- ---- its losses
 

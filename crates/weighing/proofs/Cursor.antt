@@ -1,7 +1,7 @@
 -- Where a walk over the records stands: at the rank of a key. What it passes from one context to the next. Assumes nothing.
-use Prim.Native.Nat.{ℕ, zero, suc, _+_, _-_, _*_, _/_, _^_, _≤_, _<_}
+use Prim.Native.Nat.{ℕ, zero, suc, _+_, _-_, _*_, _^_, _≤_, _<_}
 use mathlib.Core.Path.{_≡_, refl, sym, ap, subst, _∙_}
-use mathlib.Core.Bool.{Bool, true, false, cond}
+use mathlib.Core.Bool.{Bool, false}
 use mathlib.Core.List.{List, [], _∷_, _++_, append-assoc, append-nil}
 use native.Mathlib.Nat.{mul-le-mul-right}
 use native.Mathlib.Omega.{arith}
@@ -9,16 +9,16 @@ use borrow.Author.Tests.{lt-ltb, le-ltb}
 use lib.ListN.{length}
 use lib.Dec.{T, eqb, eqb→eq}
 use Rattle.numbers.specs.Limits.{mostSymbols, deepest}
-use Rattle.numbers.proofs.Tests.{or-left, or-right, or-rest, of-true, is-false}
+use Rattle.numbers.proofs.Tests.{or-left, or-right, or-rest}
 use Rattle.numbers.proofs.Orders.{Leb, le, gt, lebView, less, same, more, order, eq→eqb}
-use Rattle.contexts.specs.Context.{isContext, begins}
-use Rattle.contexts.specs.Keys.{digits, deskSpan, keyOf, deskOf, contextOf}
+use Rattle.contexts.specs.Context.{isContext}
+use Rattle.contexts.specs.Keys.{deskSpan, keyOf, deskOf}
 use Rattle.contexts.proofs.Strings.{context-more, context-length}
-use Rattle.contexts.proofs.KeyOrder.{Within, contextKey-lt, digits-lt}
+use Rattle.contexts.proofs.KeyOrder.{Within}
 use Rattle.rows.specs.Walk.{older}
 use Rattle.records.specs.Records.{records, key, keys, rises}
 use Rattle.records.specs.Held.{rank, held}
-use Rattle.records.proofs.Rising.{rises-rest, rises-weaken, rank-none}
+use Rattle.records.proofs.Rising.{rises-rest, rank-none}
 use Rattle.records.proofs.Finding.{held-none}
 use Rattle.weighing.specs.declared.Desk.{Desk}
 use Rattle.weighing.specs.Sitting.{Weighable}

@@ -1,10 +1,10 @@
 -- At a string below which every loss is its own, the trees are those of depth 0; and what the trees lose and hold at most. Assumes nothing.
 use Prim.Native.Nat.{ℕ, zero, suc, _+_, _*_, _^_, _≤_, _<_, min}
 use mathlib.Core.Path.{_≡_, refl, sym, ap, ap₂, _∙_}
-use mathlib.Core.Bool.{Bool, true, false, cond, not, _&&_, and-true, and-false}
-use mathlib.Core.List.{List, [], _∷_, _++_, append-nil}
+use mathlib.Core.Bool.{Bool, true, false, cond, not, and-true, and-false}
+use mathlib.Core.List.{List, [], _++_, append-nil}
 use native.Mathlib.Omega.{arith}
-use native.Mathlib.Nat.{mul-le-mul-right, mul-le-mul-left, pow-suc}
+use native.Mathlib.Nat.{mul-le-mul-right, pow-suc}
 use lib.ListN.{length}
 use lib.Dec.{leb}
 use borrow.Author.Tests.{le-leb, lt-leb}
@@ -18,11 +18,11 @@ use Rattle.contexts.specs.Sitting.{Sample, first, second}
 use Rattle.estimate.specs.Trees.{Kind, shared, own, from}
 use Rattle.estimate.specs.Recursion.{Losses}
 use Rattle.estimate.proofs.Unseen.{Flat, best-flat, joint-flat}
-use Rattle.rows.specs.Members.{Member, member, onlyIf, gather}
-use Rattle.rows.specs.Walk.{older, bestAt, separateAt, jointAt, leafAt, owns, walk}
+use Rattle.rows.specs.Members.{Member, member, onlyIf}
+use Rattle.rows.specs.Walk.{older, bestAt, separateAt, jointAt, leafAt, owns}
 use Rattle.rows.proofs.Walking.{bestAt-suc, jointAt-zero, jointAt-suc, bestAt-le, jointAt-le, walk-unseen}
 use Rattle.weighing.specs.Trees.{leastAt, membersAt, choice, markAt}
-use Rattle.weighing.proofs.Standing.{gather-empty, owns-none, least-leaf, joint-leaf, members-leaf, members-joint-leaf, members-split, members-joint-split, lessBelow}
+use Rattle.weighing.proofs.Standing.{gather-empty, owns-none, members-leaf, members-joint-leaf, members-split, members-joint-split, lessBelow}
 
 module _ (A : ℕ) (f : Losses) (s : List ℕ) (some : 0 < A) (flat : (k : Kind) → Flat (from s f k)) where
   pub least-flat : (d : ℕ) (k : Kind) → leastAt A d f k s ≡ leastAt A zero f k s

@@ -9,3 +9,6 @@ pub mod Turning
 pub mod Whole
 pub mod Planning
 pub mod Sheets
+pub mod Putting
+pub mod Reporting
+pub mod Onward

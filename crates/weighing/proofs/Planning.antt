@@ -1,11 +1,11 @@
 -- The members that a way wants at a context are those of the plan that its decision gives, and those that the plan wants of its children.
 -- Assumes nothing.
-use Prim.Native.Nat.{ℕ, zero, suc, _+_, _*_, _≤_, _<_, min}
-use mathlib.Core.Path.{_≡_, refl, sym, ap, ap₂, _∙_}
+use Prim.Native.Nat.{ℕ, zero, suc, _+_, _*_, min}
+use mathlib.Core.Path.{_≡_, refl, sym, ap, _∙_}
 use mathlib.Core.Bool.{Bool, true, false, cond, not, _&&_, _||_}
 use mathlib.Core.List.{List, [], _∷_, _++_, append-nil}
 use native.Mathlib.Omega.{arith}
-use lib.Dec.{leb, eqb}
+use lib.Dec.{leb}
 use Rattle.numbers.specs.Sum.{one, sum}
 use Rattle.contexts.specs.Sitting.{first, second}
 use Rattle.estimate.specs.Trees.{shared, own}

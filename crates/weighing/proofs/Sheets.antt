@@ -2,9 +2,9 @@
 use Prim.Native.Nat.{ℕ, zero, suc, _+_, _≤_, _<_}
 use mathlib.Core.Path.{_≡_, refl, sym, ap, ap₂, _∙_}
 use mathlib.Core.Bool.{Bool, true, false, cond}
-use mathlib.Core.List.{List, [], _∷_, _++_, map, append-assoc, append-nil, map-append}
+use mathlib.Core.List.{List, [], _∷_, _++_, append-assoc, append-nil}
 use native.Mathlib.Omega.{arith}
-use native.Mathlib.Nat.{add-zero, add-assoc}
+use native.Mathlib.Nat.{add-zero}
 use lib.ListN.{length, take, drop, length-append, take-append-drop}
 use lib.Seq.{take-at, drop-at, drop-drop, length-take-le, ext-getD}
 use Rattle.numbers.specs.Limits.{mostSymbols}
@@ -13,14 +13,13 @@ use Rattle.contexts.specs.Context.{codeOf}
 use Rattle.contexts.specs.Sitting.{first, second, Sitting, eight, table}
 use Rattle.contexts.proofs.Tables.{eight-at}
 use Rattle.estimate.specs.Trees.{Kind, shared, own}
-use Rattle.estimate.specs.Score.{counts}
 use Rattle.estimate.specs.Table.{countsIn}
 use Rattle.estimate.proofs.Tables.{table-counts}
 use Rattle.rows.specs.Members.{Member, member, number, onlyIf, gather}
-use Rattle.rows.specs.Rows.{Row, rowOf, numbersOf, sheetOf, kindOf}
+use Rattle.rows.specs.Rows.{rowOf, numbersOf, sheetOf}
 use Rattle.weighing.specs.declared.Plan.{Plan}
 use Rattle.weighing.specs.Plans.{hereOf}
-use Rattle.weighing.specs.Writing.{sheetFor, Written, numbersIf, numbersHere}
+use Rattle.weighing.specs.Writing.{sheetFor, Written, numbersHere}
 
 -- ---- what is written
 
@@ -59,6 +58,11 @@ pub sheet-append : (x : Sitting) (ps qs : List Member) → sheetFor x (ps ++ qs)
 unfolding sheetOf
 sheet-append x [] qs = refl
 sheet-append x (p ∷ ps) qs = ap (λ (l : List ℕ). numbersOf (rowOf x p) ++ l) (sheet-append x ps qs) ∙ sym (append-assoc (numbersOf (rowOf x p)) (sheetFor x ps) (sheetFor x qs))
+
+-- one child more
+pub gather-next : (x : Sitting) (a : ℕ) (g : ℕ → List Member) → sheetFor x (gather (suc a) g) ≡ sheetFor x (gather a g) ++ sheetFor x (g a)
+unfolding gather
+gather-next x a g = sheet-append x (gather a g) (g a)
 
 -- a child's rows have room where those of all children have
 pub gather-room : (x : Sitting) (A a : ℕ) (g : ℕ → List Member) → a < A → length (sheetFor x (gather a g)) + length (sheetFor x (g a)) ≤ length (sheetFor x (gather A g))

@@ -1,24 +1,20 @@
 -- The trees that stand at a context, from those of its children: what they lose, how many members they have, and their bounds.
 -- Assumes nothing.
-use Prim.Native.Nat.{ℕ, zero, suc, _+_, _-_, _*_, _^_, _≤_, _<_, min}
-use mathlib.Core.Path.{_≡_, refl, sym, ap, ap₂, _∙_}
+use Prim.Native.Nat.{ℕ, zero, suc, _+_, _*_, min}
+use mathlib.Core.Path.{_≡_, refl, ap, ap₂, _∙_}
 use mathlib.Core.Bool.{Bool, true, false, cond, not, _&&_}
-use mathlib.Core.List.{List, [], _∷_, _++_, append-nil}
+use mathlib.Core.List.{List, [], _∷_, _++_}
 use native.Mathlib.Omega.{arith}
-use native.Mathlib.Nat.{add-assoc, le-refl, le-suc, le-trans, mul-le-mul-right, mul-le-mul-left, pow-suc}
 use lib.ListN.{length, length-append}
 use lib.Dec.{leb}
-use borrow.Author.Tests.{le-leb, lt-leb}
 use Rattle.numbers.specs.Sum.{one, sum}
-use Rattle.numbers.proofs.Orders.{Leb, le, gt, lebView}
-use Rattle.numbers.proofs.Sums.{sum-zero, sum-add, sum-cong, sum-mono, sum-same}
+use Rattle.numbers.proofs.Sums.{sum-zero, sum-add, sum-cong}
 use Rattle.contexts.specs.Sitting.{Sample, first, second}
-use Rattle.estimate.specs.Trees.{Kind, shared, own, from}
-use Rattle.estimate.specs.Recursion.{Losses, best, joint}
-use Rattle.estimate.proofs.Unseen.{Flat, best-flat, joint-flat}
+use Rattle.estimate.specs.Trees.{Kind, shared, own}
+use Rattle.estimate.specs.Recursion.{Losses}
 use Rattle.rows.specs.Members.{Member, member, onlyIf, gather}
-use Rattle.rows.specs.Walk.{older, bestAt, separateAt, jointAt, leafAt, owns, walk}
-use Rattle.rows.proofs.Walking.{bestAt-zero, bestAt-suc, jointAt-zero, jointAt-suc, bestAt-le, jointAt-le, walk-unseen}
+use Rattle.rows.specs.Walk.{older, separateAt, leafAt, owns, walk}
+use Rattle.rows.proofs.Walking.{bestAt-zero, bestAt-suc, jointAt-zero, jointAt-suc}
 use Rattle.weighing.specs.Trees.{leastAt, membersAt, choice, markAt}
 
 -- ---- how many members there are

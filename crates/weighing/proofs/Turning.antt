@@ -5,19 +5,17 @@ use mathlib.Core.Bool.{true, not}
 use mathlib.Core.List.{List, [], _∷_}
 use native.Mathlib.Omega.{arith}
 use native.Mathlib.Numerals.{add-one}
-use native.Mathlib.Nat.{mul-le-mul-right, mul-le-mul-left, pow-suc}
+use native.Mathlib.Nat.{mul-le-mul-right, pow-suc}
 use lib.ListN.{length, getD, set, length-append}
 use lib.Dec.{T, leb}
 use Rattle.numbers.specs.Limits.{mostSymbols, deepest}
 use Rattle.numbers.specs.Sum.{one, sum}
-use Rattle.numbers.proofs.Orders.{Leb, le, gt, lebView}
 use Rattle.numbers.proofs.Sums.{sum-next, sum-mono, sum-same}
 use Rattle.contexts.specs.Context.{isContext}
-use Rattle.contexts.specs.Keys.{digits, keyOf, deskSpan, contextOf}
-use Rattle.contexts.proofs.Strings.{context-length}
+use Rattle.contexts.specs.Keys.{keyOf, deskSpan, contextOf}
 use Rattle.contexts.proofs.KeyOrder.{pow-pos, contextOf-key, contextKey-lt}
 use Rattle.contexts.specs.Sitting.{first, second}
-use Rattle.estimate.specs.Trees.{Kind, shared, own, from}
+use Rattle.estimate.specs.Trees.{Kind, shared, own}
 use Rattle.estimate.specs.Recursion.{Losses, losses}
 use Rattle.estimate.specs.declared.ByKind.{ByKind}
 use Rattle.estimate.proofs.Tables.{at}
@@ -27,9 +25,9 @@ use Rattle.records.specs.Held.{rank, held}
 use Rattle.weighing.specs.declared.Desk.{Desk}
 use Rattle.weighing.specs.declared.Context.{Context}
 use Rattle.weighing.specs.declared.Weighed.{Weighed}
-use Rattle.weighing.specs.Sitting.{sittingIn, Weighable}
-use Rattle.weighing.specs.Trees.{leastAt, membersAt, choice, markAt, markOf}
-use Rattle.weighing.specs.Visit.{spanOf, endOf, Ready, Marked, Apart, Visited, mostLoss, SplitOf, SumOf, Fits, ChildOf}
+use Rattle.weighing.specs.Sitting.{sittingIn}
+use Rattle.weighing.specs.Trees.{leastAt, membersAt, choice, markOf}
+use Rattle.weighing.specs.Visit.{endOf, Ready, Marked, Apart, Visited, mostLoss, SplitOf, SumOf, Fits, ChildOf}
 use Rattle.weighing.proofs.Cursor.{turnKey, within, end-within, turn-at, turns-past}
 use Rattle.records.proofs.Rising.{rank-mono}
 use Rattle.weighing.proofs.Blocks.{begins-self, block-key, context-older, key-older}
@@ -49,7 +47,7 @@ pub record Turn (k : Desk) (n : ℕ) (l : List ℕ) (s : List ℕ) (d p step a c
   pub marked : Marked k n l (p + 1) (kids .next) cur
   pub apart : Apart (p + 1) (kids .next) old cur
 
-pow-le : (a b : ℕ) → a ≤ b → 8 ^ a ≤ 8 ^ b
+pub pow-le : (a b : ℕ) → a ≤ b → 8 ^ a ≤ 8 ^ b
 pow-le a zero h = let e : a ≡ 0 = omega arith in rw e (omega arith)
 pow-le zero (suc b) h = pow-pos (suc b)
 pow-le (suc a) (suc b) h = omega (arith, pow-le a b (omega arith), pow-suc 8 a, pow-suc 8 b)
@@ -68,21 +66,21 @@ turn-small : (a m x y : ℕ) {g : ℕ → ℕ} → a ≤ mostSymbols → x ≡ s
 turn-small a m x y few e h y-le = omega (arith, sum-mono a {g = λ b. m} (λ b l. h b), sum-same a m, mul-le-mul-right m few)
 
 -- how many symbols could follow a child of s
-after : List ℕ → ℕ
+pub after : List ℕ → ℕ
 after s = 5 - length s
 
 module _ (k : Desk) (costs : ByKind) (n : ℕ) (l : List ℕ) (s : List ℕ) (c : Context) (p : ℕ) (q : Ready k costs n l s c p) (more : c .left ≡ 0 → ⊥) where
   abbrev f : Losses
   f = losses (sittingIn k (records n l))
 
-  deeper : length s < k .depth
+  pub deeper : length s < k .depth
   deeper = let z = more in omega (arith, q .left-is)
 
-  room : length s + suc (after s) ≡ deepest
+  pub room : length s + suc (after s) ≡ deepest
   unfolding after
   room = omega (arith, deeper, q .weighable .shallow)
 
-  step-is : c .span / 8 ≡ 8 ^ suc (after s)
+  pub step-is : c .span / 8 ≡ 8 ^ suc (after s)
   step-is = let e : 7 - length s ≡ suc (suc (after s)) = omega (arith, room) in rw (q .span-is, e) (omega (arith, pow-suc 8 (suc (after s))))
 
   pub step-small : (a : ℕ) → a < k .symbols → suc a * (c .span / 8) ≤ deskSpan
@@ -90,13 +88,13 @@ module _ (k : Desk) (costs : ByKind) (n : ℕ) (l : List ℕ) (s : List ℕ) (c 
       let w = q .weighable in
       omega (arith, end-within k n l w s (within k n l w s (q .context)), q .span-is, mul-le-mul-right {m = suc a} {n = 8} (c .span / 8) (omega (arith, w .few)))
 
-  key-small : keyOf (k .number) s < 8 * deskSpan
+  pub key-small : keyOf (k .number) s < 8 * deskSpan
   key-small = let w = q .weighable in omega (arith, contextKey-lt s (within k n l w s (q .context)), w .desk)
 
   pub key-fits : c .key + 1 < 2 ^ 32
   key-fits = omega (arith, key-small, q .key-is)
 
-  child-context : (a : ℕ) → a < k .symbols → T (isContext (k .symbols) (k .depth) (older s a))
+  pub child-context : (a : ℕ) → a < k .symbols → T (isContext (k .symbols) (k .depth) (older s a))
   child-context a lt = context-older (k .symbols) (k .depth) s a (q .context) lt deeper
 
   module _ (old cur : List ℕ) (a child : ℕ) (kids : Weighed) (t : Turn k n l s (c .left - 1) p (c .span / 8) a child old cur kids) where

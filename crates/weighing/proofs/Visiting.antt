@@ -1,22 +1,20 @@
 -- A visit to one context, and its turns over the children. Assumes nothing.
-use Prim.Native.Nat.{ℕ, zero, suc, _+_, _-_, _*_, _/_, _^_, _≤_, _<_}
-use mathlib.Core.Path.{_≡_, refl, sym, ap, ap₂, subst, _∙_}
+use Prim.Native.Nat.{ℕ, _+_, _-_, _*_, _≤_, _<_}
+use mathlib.Core.Path.{_≡_, refl, sym, ap, subst, _∙_}
 use mathlib.Core.Bool.{Bool, true, false, not}
 use mathlib.Core.Logic.{⊎-elim}
-use mathlib.Core.List.{List, []}
+use mathlib.Core.List.{List}
 use native.Mathlib.Omega.{arith}
-use native.Mathlib.Nat.{mul-le-mul-right, pow-suc, eq-or-lt-of-le}
-use lib.ListN.{length, getD, set, length-append}
+use native.Mathlib.Nat.{eq-or-lt-of-le}
+use lib.ListN.{length, getD, set}
 use lib.Seq.{getD-set-same, getD-set-other}
 use lib.Dec.{T, eqb, leb, eqb→eq}
 use Rattle.numbers.specs.Limits.{mostCounted}
-use Rattle.numbers.specs.Sum.{one, sum}
+use Rattle.numbers.specs.Sum.{one}
 use Rattle.numbers.proofs.Tests.{T?, of-true}
 use Rattle.numbers.proofs.Orders.{Leb, le, gt, lebView, Order, less, same, more, order, eq→eqb}
-use Rattle.numbers.proofs.Sums.{sum-next, sum-mono, sum-same}
-use Rattle.contexts.specs.Context.{isContext}
-use Rattle.contexts.specs.Keys.{keyOf, deskSpan, contextOf}
-use Rattle.contexts.proofs.KeyOrder.{contextOf-key, contextKey-lt}
+use Rattle.contexts.specs.Keys.{keyOf}
+use Rattle.contexts.proofs.KeyOrder.{contextOf-key}
 use Rattle.contexts.specs.Sitting.{first, second, table, rowIn, sumOf}
 use Rattle.estimate.specs.Trees.{Kind, shared, own, from}
 use Rattle.estimate.specs.Recursion.{Losses, losses}
@@ -24,19 +22,16 @@ use Rattle.estimate.specs.Table.{LossesOf}
 use Rattle.estimate.specs.declared.ByKind.{ByKind}
 use Rattle.estimate.proofs.Tables.{at}
 use Rattle.estimate.proofs.Unseen.{Flat}
-use Rattle.rows.specs.Walk.{older}
 use Rattle.records.specs.Records.{width, records, keys}
 use Rattle.records.specs.Held.{rank, held, recordAt, tableOf, Rising}
 use Rattle.records.proofs.Finding.{held-lost}
 use Rattle.weighing.specs.declared.Desk.{Desk}
 use Rattle.weighing.specs.declared.Context.{Context}
 use Rattle.weighing.specs.declared.Weighed.{Weighed}
-use Rattle.weighing.specs.Sitting.{sittingIn, Weighable}
-use Rattle.weighing.specs.Trees.{leastAt, membersAt, markAt, markOf}
-use Rattle.weighing.specs.Visit.{spanOf, endOf, Ready, Marked, Apart, Visited, Countable, Small, LeafOf}
-use Rattle.weighing.proofs.Cursor.{turnKey, rank-own, within, end-within, past-absent, past-deepest, turn-at, turns-past}
-use Rattle.weighing.proofs.Blocks.{context-older, key-older}
-use Rattle.weighing.proofs.Flat as flat
+use Rattle.weighing.specs.Sitting.{sittingIn}
+use Rattle.weighing.specs.Trees.{markAt, markOf}
+use Rattle.weighing.specs.Visit.{Ready, Marked, Apart, Visited, Countable, Small, LeafOf}
+use Rattle.weighing.proofs.Cursor.{rank-own, within, past-absent, past-deepest}
 use Rattle.weighing.proofs.Counts.{table-here, table-small, costs-small, losses-here, small-here, absent-flat, absent-losses}
 use Rattle.weighing.proofs.Choosing as choosing
 

@@ -2,16 +2,15 @@
 use mathlib.Core.Path.{_≡_}
 use mathlib.Core.Bool.{cond}
 use mathlib.Core.List.{List}
-use Prim.Native.Nat.{ℕ, _+_, _*_, _^_, _-_, _≤_, _<_}
-use lib.ListN.{length, getD}
+use Prim.Native.Nat.{ℕ, _+_, _≤_, _<_}
+use lib.ListN.{getD}
 use lib.Dec.{T}
 use Rattle.numbers.specs.Limits.{mostSymbols, deepest, mostCounted, desks}
-use Rattle.numbers.specs.Sum.{sum}
 use Rattle.contexts.specs.Context.{isContext}
-use Rattle.contexts.specs.Keys.{digits, deskSpan, keyOf, deskOf}
+use Rattle.contexts.specs.Keys.{keyOf, deskOf}
 use Rattle.contexts.specs.Sitting.{Sample, first, second, Sitting, totalIn}
 use Rattle.rows.specs.Walk.{older}
-use Rattle.records.specs.Records.{width, records, keys, countsOf, lookup}
+use Rattle.records.specs.Records.{records, countsOf, lookup}
 use Rattle.records.specs.Held.{held, Standing}
 use Rattle.weighing.specs.declared.Desk.{Desk}
 

@@ -1,12 +1,11 @@
 -- What a visit to one context asks and gives. Assumes nothing.
 use mathlib.Core.Path.{_≡_}
-use mathlib.Core.Bool.{cond, not}
+use mathlib.Core.Bool.{cond}
 use mathlib.Core.List.{List}
 use Prim.Native.Nat.{ℕ, _+_, _-_, _*_, _^_, _≤_, _<_, min}
 use lib.ListN.{length, getD}
 use lib.Dec.{T, leb}
 use Rattle.numbers.specs.Limits.{deepest, mostSymbols, mostCounted, topLog}
-use Rattle.numbers.specs.Sum.{one}
 use Rattle.contexts.specs.Context.{isContext}
 use Rattle.contexts.specs.Keys.{digits, deskSpan, keyOf}
 use Rattle.contexts.specs.Sitting.{first, second, rowIn, sumOf}
@@ -16,12 +15,12 @@ use Rattle.estimate.specs.Table.{CostsOf}
 use Rattle.estimate.specs.declared.ByKind.{ByKind}
 use Rattle.estimate.proofs.Tables.{at}
 use Rattle.records.specs.Records.{width, records, keys}
-use Rattle.records.specs.Held.{rank, held, recordAt, tableOf, Standing}
+use Rattle.records.specs.Held.{rank, recordAt, tableOf, Standing}
 use Rattle.weighing.specs.declared.Desk.{Desk}
 use Rattle.weighing.specs.declared.Context.{Context}
 use Rattle.weighing.specs.declared.Weighed.{Weighed}
 use Rattle.weighing.specs.Sitting.{sittingIn, Weighable}
-use Rattle.weighing.specs.Trees.{leastAt, membersAt, choice, markOf}
+use Rattle.weighing.specs.Trees.{leastAt, membersAt, markOf}
 
 -- ---- where a visit stands
 

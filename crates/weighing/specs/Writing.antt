@@ -1,11 +1,12 @@
 -- What the writing of rows asks and gives. Assumes nothing.
 use mathlib.Core.Path.{_≡_}
-use mathlib.Core.Bool.{Bool, cond}
+use mathlib.Core.Bool.{Bool, cond, not}
 use mathlib.Core.List.{List, [], _∷_, _++_, map}
-use Prim.Native.Nat.{ℕ, _+_, _-_, _*_, _^_, _≤_, _<_}
-use lib.ListN.{length, take, drop}
-use lib.Dec.{T}
+use Prim.Native.Nat.{ℕ, _+_, _^_, _≤_}
+use lib.ListN.{length, take, drop, getD}
+use lib.Dec.{T, leb}
 use Rattle.numbers.specs.Limits.{mostCounted}
+use Rattle.numbers.specs.Sum.{one}
 use Rattle.contexts.specs.Context.{isContext, codeOf}
 use Rattle.contexts.specs.Keys.{keyOf}
 use Rattle.contexts.specs.Sitting.{first, second, Sitting, eight, rowIn, sumOf}
@@ -13,17 +14,17 @@ use Rattle.estimate.specs.Recursion.{losses}
 use Rattle.estimate.specs.Table.{countsIn, CostsOf}
 use Rattle.estimate.specs.declared.ByKind.{ByKind}
 use Rattle.rows.specs.Members.{Member}
-use Rattle.rows.specs.Rows.{rowOf, rowWidth, reportOf, sheetOf, kindOf}
-use Rattle.records.specs.Records.{records}
+use Rattle.rows.specs.Rows.{rowOf, reportOf, sheetOf, kindOf}
+use Rattle.records.specs.Records.{records, keys, lookup}
+use Rattle.records.specs.Held.{rank, held, tableOf, Standing}
 use Rattle.weighing.specs.declared.Desk.{Desk}
 use Rattle.weighing.specs.declared.Plan.{Plan}
 use Rattle.weighing.specs.declared.Spot.{Spot}
 use Rattle.weighing.specs.declared.Step.{Step}
 use Rattle.weighing.specs.Sitting.{sittingIn, Weighable}
-use Rattle.weighing.specs.Trees.{markAt}
-use Rattle.weighing.specs.Visit.{spanOf}
+use Rattle.weighing.specs.Visit.{spanOf, Small}
 use Rattle.weighing.specs.Weighs.{Decided}
-use Rattle.weighing.specs.Plans.{wanted, planOf, hereOf}
+use Rattle.weighing.specs.Plans.{wanted, planOf}
 
 -- the numbers of the rows of some members
 abbrev pub sheetFor : Sitting → List Member → List ℕ
@@ -47,6 +48,10 @@ pub record Roomy (top to size : ℕ) (counts : List (List ℕ)) : Type 0 where
   pub room : to + size ≤ top
   pub counted : sumOf (rowIn counts first) + sumOf (rowIn counts second) ≤ mostCounted
 
+-- the numbers of the rows that are wanted at s and below it
+abbrev pub rowsFrom : Desk → ℕ → List ℕ → List ℕ → Spot → List ℕ
+rowsFrom k n l s c = sheetFor (sittingIn k (records n l)) (wanted (k .symbols) (c .left) (losses (sittingIn k (records n l))) (c .way) s)
+
 -- what the writing of the rows at the context s and below it asks, on a sheet of `top` numbers from place `to` on
 pub record CanWrite (k : Desk) (costs : ByKind) (n : ℕ) (l kept : List ℕ) (top : ℕ) (s : List ℕ) (c : Spot) (to : ℕ) : Type 0 where
   pub weighable : Weighable k n l
@@ -58,12 +63,26 @@ pub record CanWrite (k : Desk) (costs : ByKind) (n : ℕ) (l kept : List ℕ) (t
   pub left-is : length s + c .left ≡ k .depth
   pub code-is : c .code ≡ codeOf s
   pub power-is : c .power ≡ 8 ^ length s
-  pub room : to + length (sheetFor (sittingIn k (records n l)) (wanted (k .symbols) (c .left) (losses (sittingIn k (records n l))) (c .way) s)) ≤ top
+  pub room : to + length (rowsFrom k n l s c) ≤ top
 
--- the rows at s itself are written, and what is wanted of its children
-pub record WroteHere (k : Desk) (n : ℕ) (l : List ℕ) (s : List ℕ) (c : Spot) (before after : List ℕ) (to : ℕ) (r : Step) : Type 0 where
-  pub way-is : r .way ≡ planOf (c .way) (markAt (k .symbols) (c .left) (losses (sittingIn k (records n l))) s) .next
-  pub written : Written before after to (sheetFor (sittingIn k (records n l)) (hereOf (planOf (c .way) (markAt (k .symbols) (c .left) (losses (sittingIn k (records n l))) s)) s)) (r .to)
+-- the decision under a key: the one kept beside its record, or that of a leaf that costs this
+abbrev pub keptMark : ℕ → List ℕ → List ℕ → ByKind → ℕ → ℕ
+keptMark n l kept costs key = cond (held key (records n l)) (getD kept (rank key (keys (records n l))) 0) (one (not (leb (costs .shared) (costs .first + costs .second))))
+
+-- .. and the plan that it gives
+abbrev pub keptPlan : ℕ → List ℕ → List ℕ → ByKind → Spot → Plan
+keptPlan n l kept costs c = planOf (c .way) (keptMark n l kept costs (c .key))
+
+-- the rows of one context, by its numbers: what their writing asks, and what it gives
+pub record CanWriteHere (n : ℕ) (l kept : List ℕ) (costs : ByKind) (top : ℕ) (c : Spot) (len to : ℕ) : Type 0 where
+  pub standing : Standing n l
+  pub beside : n ≤ length kept
+  pub small : Small costs
+  pub roomy : Roomy top to (length (numbersHere (keptPlan n l kept costs c) len (c .code) (tableOf (lookup (c .key) (records n l))))) (tableOf (lookup (c .key) (records n l)))
+
+pub record WroteNumbers (n : ℕ) (l kept : List ℕ) (costs : ByKind) (before after : List ℕ) (c : Spot) (len to : ℕ) (r : Step) : Type 0 where
+  pub way-is : r .way ≡ keptPlan n l kept costs c .next
+  pub written : Written before after to (numbersHere (keptPlan n l kept costs c) len (c .code) (tableOf (lookup (c .key) (records n l)))) (r .to)
 
 -- what the writing of a report asks: the decisions of a weighing, and room on the sheet
 pub record CanReport (k : Desk) (n : ℕ) (l kept sheet : List ℕ) : Type 0 where

@@ -2,7 +2,6 @@
 use mathlib.Core.Path.{_≡_, refl}
 use Rattle.contexts.specs.Sitting.{first, second}
 use Rattle.estimate.specs.Trees.{Kind, shared, own}
-use Rattle.estimate.specs.declared.ByKind.{ByKind}
 use Rattle.estimate.proofs.Tables.{at}
 use Rattle.weighing.proofs.none_yet.Statement.{statement}
 use Rattle.weighing.proofs.none_yet.Tie as tie
