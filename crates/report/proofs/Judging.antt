@@ -89,7 +89,7 @@ module _ (s : List ℕ) (d place : ℕ) (before : List ℕ) where
 
 -- ---- the sheet
 
-sheet-length : (rs : List Row) → AllFit rs → length (sheetOf rs) ≡ rowWidth * length rs
+pub sheet-length : (rs : List Row) → AllFit rs → length (sheetOf rs) ≡ rowWidth * length rs
 unfolding sheetOf
 sheet-length [] f = refl
 sheet-length (r ∷ rs) f = let e = f .0 .counts in omega (arith, length-append (numbersOf r) (sheetOf rs), sheet-length rs (f .1))

@@ -1,2 +1,6 @@
 pub mod Standing
 pub mod Judging
+pub mod Refusing
+pub mod Writing
+pub mod Answering
+pub mod Negative

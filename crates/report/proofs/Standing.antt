@@ -4,18 +4,28 @@ use native.Mathlib.Omega.{arith}
 use mathlib.Core.Path.{_≡_, refl, sym, ap, subst, fun-ext, _∙_}
 use mathlib.Core.Bool.{Bool, true, false, cond}
 use mathlib.Core.List.{List, [], _∷_, _++_}
-use lib.ListN.{length, drop, getD, length-drop}
+use lib.ListN.{length, drop, getD, length-drop, length-map}
 use lib.Dec.{T, eqb, eqb-refl}
-use Rattle.numbers.specs.Limits.{mostSymbols, deepest, longest, mostCounted, desks}
+use Rattle.numbers.specs.Limits.{mostSymbols, deepest, longest, mostCounted, desks, mostRoom}
 use Rattle.numbers.specs.Sum.{sum}
 use Rattle.numbers.proofs.Tests.{both}
 use Rattle.numbers.proofs.Orders.{Order, less, same, more, order}
 use Rattle.contexts.specs.Context.{isContext, begins}
 use Rattle.contexts.specs.Keys.{keyOf, deskOf}
 use Rattle.contexts.specs.Sitting.{Sample, first, second, Sitting, totalIn}
+use Rattle.contexts.specs.Strings.{strings}
 use Rattle.contexts.proofs.Strings.{context-more}
 use Rattle.contexts.proofs.KeyOrder.{deskOf-key}
+use Rattle.estimate.specs.Trees.{shared}
+use Rattle.estimate.specs.Score.{cost}
+use Rattle.estimate.specs.Table.{CostsOf}
+use Rattle.estimate.specs.declared.ByKind.{ByKind}
+use Rattle.estimate.specs.Recursion.{losses, joint, estimateOf}
+use Rattle.estimate.proofs.Choice.{joint-le}
+use Rattle.rows.specs.Rows.{rowOf, reportOf}
+use Rattle.rows.specs.Members.{members}
 use Rattle.rows.specs.Walk.{older}
+use Rattle.rows.proofs.Scoring.{members-limit}
 use Rattle.records.specs.Records.{width, records, key, keys, lookup}
 use Rattle.records.specs.Held.{held, Standing}
 use Rattle.records.proofs.Finding.{Place, held-place, lookup-place, lookup-absent}
@@ -29,7 +39,11 @@ use Rattle.store.proofs.Passing.{Passed, passed}
 use Rattle.store.proofs.Standing.{sound-stands}
 use Rattle.store.proofs.Fitting.{desk-opened, meaning-fits}
 use Rattle.weighing.specs.Sitting.{sizes, sittingIn, Weighable}
-use Rattle.report.specs.Desk.{deskIn}
+use Rattle.weighing.specs.Weighs.{CanWeigh, Weighs}
+use Rattle.weighing.specs.declared.Desk.{Desk}
+use Rattle.weighing.specs.declared.Least.{Least}
+use Rattle.weighing.proofs.Counts.{losses-most}
+use Rattle.report.specs.Desk.{deskIn, CanReportOn, WeighedDesk}
 
 -- a string begins each that it goes on as
 begins-front : (t u : List ℕ) → T (begins t (t ++ u))
@@ -38,7 +52,7 @@ begins-front (a ∷ t) u = both (eqb a a) (begins t (t ++ u)) (eqb-refl a) (begi
 
 module _ (s : List ℕ) (d : ℕ) (sound : soundb s ≡ true) (at-desk : Open s d) where
   -- what the store promises of the desk's sitting
-  fits : SittingFits (openingAt s d) (progressAt s d)
+  pub fits : SittingFits (openingAt s d) (progressAt s d)
   unfolding meaning
   fits = meaning-fits s sound .sittings d (openingAt s d) (progressAt s d) (desk-opened s d at-desk)
 
@@ -111,3 +125,40 @@ module _ (s : List ℕ) (d : ℕ) (sound : soundb s ≡ true) (at-desk : Open s 
     below = fits .only-below;
     counted = λ t. let a = fits .totals first t in let b = fits .totals second t in let x = fits .sizes first in let y = fits .sizes second in omega arith;
   }
+
+  -- what a weighing says of the desk's sitting
+  pub weighed-desk : (kept : List ℕ) (r : Least) → Weighs (deskIn s d) (used s) (drop headerSize s) kept r → WeighedDesk s d kept r
+  unfolding recordsIn strings
+  weighed-desk kept r w = record {
+    decided = w .decided;
+    joint-is = w .joint-least ∙ ap (λ (x : Sitting). joint (symbolsAt s d) (depthAt s d) (losses x)) sitting-is;
+    rows-are = w .rows-are ∙ ap (λ (x : Sitting). length (reportOf x)) sitting-is;
+    joint-small = omega (arith, w .joint-least, joint-le (symbolsAt s d) (depthAt s d) (losses x) .0, losses-most (deskIn s d) (used s) (drop headerSize s) weighable costs priced [] shared);
+    rows-small = omega (arith, w .rows-are, length-map (members (symbolsAt s d) (depthAt s d) (estimateOf x)) (rowOf x), members-limit (symbolsAt s d) (depthAt s d) (estimateOf x) (fits .alphabet-most) (fits .depth-most));
+  }
+    where
+      x : Sitting
+      x = sittingIn (deskIn s d) (records (used s) (drop headerSize s))
+
+      costs : ByKind
+      costs = record { shared = cost (symbolsAt s d) (sizeAt s d first + sizeAt s d second); first = cost (symbolsAt s d) (sizeAt s d first); second = cost (symbolsAt s d) (sizeAt s d second) }
+
+      priced : CostsOf (symbolsAt s d) (sizeAt s d first) (sizeAt s d second) costs
+      priced = record { shared = refl; first = refl; second = refl }
+
+-- ---- as the code has it: a desk by value
+
+module _ (s : List ℕ) (k : Desk) (c : CanReportOn s k) where
+  pub sized : headerSize ≤ length s
+  sized = let a = sound-stands s (c .sound) .long in omega arith
+
+  pub few-records : used s ≤ mostRoom
+  few-records = let h = sound-stands s (c .sound) in let a = h .few in let b = h .room-most in omega arith
+
+  pub can-weigh : (kept : List ℕ) → mostRoom ≤ length kept → CanWeigh k (used s) (drop headerSize s) kept
+  can-weigh kept l =
+      subst (λ (x : Desk). CanWeigh x (used s) (drop headerSize s) kept) (sym (c .is-desk))
+      (record { weighable = weighable s (k .number) (c .sound) (c .at-open); beside = let h = few-records in omega arith })
+
+  pub has-weighed : (kept : List ℕ) (r : Least) → Weighs k (used s) (drop headerSize s) kept r → WeighedDesk s (k .number) kept r
+  has-weighed kept r w = weighed-desk s (k .number) (c .sound) (c .at-open) kept r (subst (λ (x : Desk). Weighs x (used s) (drop headerSize s) kept r) (c .is-desk) w)

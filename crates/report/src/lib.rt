@@ -1,1 +1,115 @@
-// The report on a desk.
+// The report on a desk: the best triple, its rows on the sheet, its score.
+use calls::Refusal;
+use calls::ReportAnswer;
+use store::layout::DEPTH;
+use store::layout::DESKS;
+use store::layout::HEADER;
+use store::layout::OPEN;
+use store::layout::SIZE_FIRST;
+use store::layout::SIZE_SECOND;
+use store::layout::SYMBOLS;
+use store::layout::USED;
+use store::layout::field_at;
+use weighing::Desk;
+use weighing::Least;
+ghost use mathlib.Core.Path.{_≡_};
+ghost use Prim.Native.Nat.{_+_, _/_, _^_, _≤_, _<_};
+ghost use lib.ListN.{length};
+ghost use lib.IntN.{pos, negℤ};
+ghost use Rattle.numbers.specs.Limits.{desks, mostRoom};
+ghost use Rattle.store.specs.Layout.{headerSize};
+ghost use Rattle.store.specs.Meaning.{sittingAt};
+ghost use Rattle.calls.specs.Refusals.{reportOf};
+ghost use Rattle.calls.specs.Promises.{withRows, Reports};
+ghost use Rattle.rows.specs.Rows.{rowWidth};
+ghost use Rattle.rows.specs.Rows as rows;
+ghost use Rattle.report.specs.Desk.{deskIn, CanReportOn, WeighedDesk, DecidedDesk};
+
+// As many marks as a store can have records.
+const MOST_ROOM: usize = 4096;
+
+// How many numbers a row has.
+const ROW_WIDTH: usize = 11;
+
+// Writes a desk's report on the sheet, from row `place` on.
+pub fn report(store: &[u32], desk: u32, sheet: &mut [u32], place: u32) -> ReportAnswer
+    ensures { λ r. ⌜ Reports (now (store .entry)) desk place (reportOf r place (now (sheet .exit))) (now (sheet .entry)) (now (sheet .exit)) ⌝ }
+{
+    if !store::sound(store) {
+        return ReportAnswer::Refused(Refusal::Unsound);
+    }
+    let d = desk as usize;
+    if DESKS <= d {
+        return ReportAnswer::Refused(Refusal::NoSuchDesk);
+    }
+    if field_at(store, d, OPEN) != 1 {
+        return ReportAnswer::Refused(Refusal::NotOpen);
+    }
+    let at = desk_in(store, desk);
+    let n = at.n;
+    let m = at.m;
+    if n == 0 {
+        return ReportAnswer::Refused(Refusal::SampleEmpty);
+    }
+    if m == 0 {
+        return ReportAnswer::Refused(Refusal::SampleEmpty);
+    }
+    report_on(store, at, sheet, place)
+}
+
+// The report on an open desk both of whose samples have symbols.
+fn report_on(store: &[u32], desk: Desk, sheet: &mut [u32], place: u32) -> ReportAnswer
+    requires { ⌜ CanReportOn (now store) desk ⌝ }
+    ensures { λ r. ⌜ Reports (now (store .entry)) (desk .number) place (reportOf r place (now (sheet .exit))) (now (sheet .entry)) (now (sheet .exit)) ⌝ }
+{
+    let mut kept = [0u8; MOST_ROOM];
+    let least = weighed(store, desk, &mut kept);
+    let whole = sheet.len() / ROW_WIDTH;
+    if whole < place as usize + least.rows as usize {
+        return ReportAnswer::Refused(Refusal::SheetShort);
+    }
+    write(store, desk, &kept, sheet, place);
+    ReportAnswer::Rows(least.rows as u32, score_of(least.joint))
+}
+
+// The score is the loss with a minus sign.
+fn score_of(loss: u64) -> i64
+    requires { ⌜ loss < 2 ^ 63 ⌝ }
+    ensures { λ r. ⌜ r ≡ negℤ (pos loss) ⌝ }
+{
+    -(loss as i64)
+}
+
+// Weighs an open desk's records; the decisions are kept beside them.
+fn weighed(store: &[u32], desk: Desk, kept: &mut [u8]) -> Least
+    requires { ⌜ CanReportOn (now store) desk × (mostRoom ≤ length (now kept)) ⌝ }
+    ensures { λ r. ⌜ WeighedDesk (now (store .entry)) (desk .number) (now (kept .exit)) r ⌝ }
+{
+    let used = store[USED] as usize;
+    weighing::weigh(&store[HEADER..], used, desk, kept)
+}
+
+// Writes a weighed desk's rows from row `place` on.
+fn write(store: &[u32], desk: Desk, kept: &[u8], sheet: &mut [u32], place: u32)
+    requires { ⌜ CanReportOn (now store) desk × DecidedDesk (now store) (desk .number) (now kept) × (place + length (rows.reportOf (sittingAt (now store) (desk .number))) ≤ length (now sheet) / rowWidth) ⌝ }
+    ensures { λ _. ⌜ now (sheet .exit) ≡ withRows place (rows.reportOf (sittingAt (now (store .entry)) (desk .number))) (now (sheet .entry)) ⌝ }
+{
+    let used = store[USED] as usize;
+    let start = ROW_WIDTH * place as usize;
+    weighing::write_rows(&store[HEADER..], used, desk, kept, &mut sheet[start..]);
+}
+
+// A desk's numbers, as a weighing takes them.
+fn desk_in(store: &[u32], desk: u32) -> Desk
+    requires { ⌜ (headerSize ≤ length (now store)) × (desk < desks) ⌝ }
+    ensures { λ r. ⌜ r ≡ deskIn (now (store .entry)) desk ⌝ }
+{
+    let d = desk as usize;
+    Desk {
+        number: desk,
+        symbols: field_at(store, d, SYMBOLS),
+        depth: field_at(store, d, DEPTH),
+        n: field_at(store, d, SIZE_FIRST),
+        m: field_at(store, d, SIZE_SECOND),
+    }
+}
