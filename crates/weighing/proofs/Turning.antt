@@ -5,15 +5,14 @@ use mathlib.Core.Bool.{true, not}
 use mathlib.Core.List.{List, [], _∷_}
 use native.Mathlib.Omega.{arith}
 use native.Mathlib.Numerals.{add-one}
-use native.Mathlib.Nat.{mul-le-mul-right, pow-suc}
+use native.Mathlib.Nat.{mul-le-mul-right}
 use lib.ListN.{length, getD, set, length-append}
-use lib.Dec.{T, leb}
-use Rattle.numbers.specs.Limits.{mostSymbols, deepest}
+use lib.Dec.{leb}
+use Rattle.numbers.specs.Limits.{mostSymbols}
 use Rattle.numbers.specs.Sum.{one, sum}
 use Rattle.numbers.proofs.Sums.{sum-next, sum-mono, sum-same}
-use Rattle.contexts.specs.Context.{isContext}
-use Rattle.contexts.specs.Keys.{keyOf, deskSpan, contextOf}
-use Rattle.contexts.proofs.KeyOrder.{pow-pos, contextOf-key, contextKey-lt}
+use Rattle.contexts.specs.Keys.{keyOf, contextOf}
+use Rattle.contexts.proofs.KeyOrder.{contextOf-key}
 use Rattle.contexts.specs.Sitting.{first, second}
 use Rattle.estimate.specs.Trees.{Kind, shared, own}
 use Rattle.estimate.specs.Recursion.{Losses, losses}
@@ -28,13 +27,16 @@ use Rattle.weighing.specs.declared.Weighed.{Weighed}
 use Rattle.weighing.specs.Sitting.{sittingIn}
 use Rattle.weighing.specs.Trees.{leastAt, membersAt, choice, markOf}
 use Rattle.weighing.specs.Visit.{endOf, Ready, Marked, Apart, Visited, mostLoss, SplitOf, SumOf, Fits, ChildOf}
-use Rattle.weighing.proofs.Cursor.{turnKey, within, end-within, turn-at, turns-past}
+use Rattle.weighing.proofs.Cursor.{turnKey, within, turn-at, turns-past}
 use Rattle.records.proofs.Rising.{rank-mono}
-use Rattle.weighing.proofs.Blocks.{begins-self, block-key, context-older, key-older}
+use Rattle.weighing.proofs.Blocks.{begins-self, block-key, key-older}
 use Rattle.weighing.proofs.Flat.{least-le, members-few}
 use Rattle.weighing.proofs.Counts.{losses-most}
 use Rattle.weighing.proofs.Choosing as choosing
-use Rattle.weighing.proofs.Visiting.{marked-on, apart-on, written-mark, written-apart, apart-none, past-own, there, mark-there}
+use Rattle.weighing.proofs.Steps as steps
+use Rattle.weighing.proofs.Steps.{pow-le}
+use Rattle.weighing.proofs.Marks.{marked-on, apart-on, written-mark, written-apart, apart-none}
+use Rattle.weighing.proofs.Visiting.{past-own, there, mark-there}
 
 -- before the child at a of the context s, which stands at place p; d symbols are left below the children
 pub record Turn (k : Desk) (n : ℕ) (l : List ℕ) (s : List ℕ) (d p step a child : ℕ) (old cur : List ℕ) (kids : Weighed) : Type 0 where
@@ -46,11 +48,6 @@ pub record Turn (k : Desk) (n : ℕ) (l : List ℕ) (s : List ℕ) (d p step a c
   pub place : kids .next ≡ rank (turnKey (k .number) s a) (keys (records n l))
   pub marked : Marked k n l (p + 1) (kids .next) cur
   pub apart : Apart (p + 1) (kids .next) old cur
-
-pub pow-le : (a b : ℕ) → a ≤ b → 8 ^ a ≤ 8 ^ b
-pow-le a zero h = let e : a ≡ 0 = omega arith in rw e (omega arith)
-pow-le zero (suc b) h = pow-pos (suc b)
-pow-le (suc a) (suc b) h = omega (arith, pow-le a b (omega arith), pow-suc 8 a, pow-suc 8 b)
 
 -- sums by kind
 sum-of : (x y r : ByKind) → SumOf x y r → (t : Kind) → at r t ≡ at x t + at y t
@@ -65,59 +62,31 @@ fits-by x y h = record { shared = h shared; first = h (own first); second = h (o
 turn-small : (a m x y : ℕ) {g : ℕ → ℕ} → a ≤ mostSymbols → x ≡ sum a g → ((b : ℕ) → g b ≤ m) → y ≤ m → x + y ≤ 9 * m
 turn-small a m x y few e h y-le = omega (arith, sum-mono a {g = λ b. m} (λ b l. h b), sum-same a m, mul-le-mul-right m few)
 
--- how many symbols could follow a child of s
-pub after : List ℕ → ℕ
-after s = 5 - length s
-
 module _ (k : Desk) (costs : ByKind) (n : ℕ) (l : List ℕ) (s : List ℕ) (c : Context) (p : ℕ) (q : Ready k costs n l s c p) (more : c .left ≡ 0 → ⊥) where
   abbrev f : Losses
   f = losses (sittingIn k (records n l))
 
-  pub deeper : length s < k .depth
-  deeper = let z = more in omega (arith, q .left-is)
-
-  pub room : length s + suc (after s) ≡ deepest
-  unfolding after
-  room = omega (arith, deeper, q .weighable .shallow)
-
-  pub step-is : c .span / 8 ≡ 8 ^ suc (after s)
-  step-is = let e : 7 - length s ≡ suc (suc (after s)) = omega (arith, room) in rw (q .span-is, e) (omega (arith, pow-suc 8 (suc (after s))))
-
-  pub step-small : (a : ℕ) → a < k .symbols → suc a * (c .span / 8) ≤ deskSpan
-  step-small a lt =
-      let w = q .weighable in
-      omega (arith, end-within k n l w s (within k n l w s (q .context)), q .span-is, mul-le-mul-right {m = suc a} {n = 8} (c .span / 8) (omega (arith, w .few)))
-
-  pub key-small : keyOf (k .number) s < 8 * deskSpan
-  key-small = let w = q .weighable in omega (arith, contextKey-lt s (within k n l w s (q .context)), w .desk)
-
-  pub key-fits : c .key + 1 < 2 ^ 32
-  key-fits = omega (arith, key-small, q .key-is)
-
-  pub child-context : (a : ℕ) → a < k .symbols → T (isContext (k .symbols) (k .depth) (older s a))
-  child-context a lt = context-older (k .symbols) (k .depth) s a (q .context) lt deeper
-
   module _ (old cur : List ℕ) (a child : ℕ) (kids : Weighed) (t : Turn k n l s (c .left - 1) p (c .span / 8) a child old cur kids) where
     child-key : a < k .symbols → child ≡ keyOf (k .number) (older s a)
-    child-key lt = t .child-is ∙ rw step-is (sym (key-older (k .number) (after s) s room a))
+    child-key lt = t .child-is ∙ rw (steps.step-is k costs n l s c p q more) (sym (key-older (k .number) (steps.after s) s (steps.room k costs n l s c p q more) a))
 
     -- what a child's visit asks
     pub turn-ready : a < k .symbols → Ready k costs n l (older s a) (record { key = child; span = c .span / 8; left = c .left - 1 }) (kids .next)
     turn-ready lt = record {
       weighable = q .weighable;
       priced = q .priced;
-      context = child-context a lt;
+      context = steps.child-context k costs n l s c p q more a lt;
       key-is = child-key lt;
-      span-is = let e : 7 - length (older s a) ≡ suc (after s) = omega (arith, length-append s (a ∷ []), room) in step-is ∙ rw e;
+      span-is = let e : 7 - length (older s a) ≡ suc (steps.after s) = omega (arith, length-append s (a ∷ []), steps.room k costs n l s c p q more) in steps.step-is k costs n l s c p q more ∙ rw e;
       left-is = let z = more in omega (arith, length-append s (a ∷ []), q .left-is);
-      place = t .place ∙ turn-at k n l (q .weighable) s (q .context) (after s) room deeper a lt;
+      place = t .place ∙ turn-at k n l (q .weighable) s (q .context) (steps.after s) (steps.room k costs n l s c p q more) (steps.deeper k costs n l s c p q more) a lt;
     }
 
     pub child-is : a < k .symbols → contextOf child ≡ older s a
-    child-is lt = ap contextOf (child-key lt) ∙ contextOf-key (k .number) (older s a) (within k n l (q .weighable) (older s a) (child-context a lt))
+    child-is lt = ap contextOf (child-key lt) ∙ contextOf-key (k .number) (older s a) (within k n l (q .weighable) (older s a) (steps.child-context k costs n l s c p q more a lt))
 
     pub child-fits : a < k .symbols → child + c .span / 8 < 2 ^ 32
-    child-fits lt = omega (arith, t .child-is, step-small a lt, key-small)
+    child-fits lt = omega (arith, t .child-is, steps.step-small k costs n l s c p q more a lt, steps.key-small k costs n l s c p q more)
 
     -- what it gives fits, and brings the next turn
     module _ (lt : a < k .symbols) (new : List ℕ) (w : Weighed) (g : Visited k n l (older s a) (c .left - 1) (kids .next) cur new w) where
@@ -152,8 +121,8 @@ module _ (k : Desk) (costs : ByKind) (n : ℕ) (l : List ℕ) (s : List ℕ) (c 
           -- a visit does not go back
           further : kids .next ≤ w .next
           further =
-              let o = within k n l (q .weighable) (older s a) (child-context a lt) in
-              rw (g .past, t .place ∙ turn-at k n l (q .weighable) s (q .context) (after s) room deeper a lt)
+              let o = within k n l (q .weighable) (older s a) (steps.child-context k costs n l s c p q more a lt) in
+              rw (g .past, t .place ∙ turn-at k n l (q .weighable) s (q .context) (steps.after s) (steps.room k costs n l s c p q more) (steps.deeper k costs n l s c p q more) a lt)
               (rank-mono (keyOf (k .number) (older s a)) (endOf (k .number) (older s a)) (keys (records n l)) (omega (arith, block-key (k .number) (older s a) (older s a) o o (begins-self (older s a)))))
 
   -- ---- the first turn, and after the last
@@ -193,7 +162,7 @@ module _ (k : Desk) (costs : ByKind) (n : ℕ) (l : List ℕ) (s : List ℕ) (c 
 
       last : (m : ℕ) → a ≡ m → rank (turnKey (k .number) s m) (keys (records n l)) ≡ rank (endOf (k .number) s) (keys (records n l))
       last zero e = absurd (omega (arith, all, q .weighable .some))
-      last (suc b) e = turns-past k n l (q .weighable) s (q .context) (after s) room deeper b (omega (arith, all))
+      last (suc b) e = turns-past k n l (q .weighable) s (q .context) (steps.after s) (steps.room k costs n l s c p q more) (steps.deeper k costs n l s c p q more) b (omega (arith, all))
 
       pub turns-end : (o : ByKind) → ((i : Kind) → at o i ≡ f i s) → (v : ℕ)
           → v ≡ choice (o .shared) (min (o .first) (kids .least .first) + min (o .second) (kids .least .second)) (kids .least .shared)

@@ -75,8 +75,9 @@ pub fn write_rows(numbers: &[u32], n: usize, desk: Desk, kept: &[u8], sheet: &mu
         first: false,
         second: false,
     };
+    let key = desk.number * DESK_SPAN;
     let root = Spot {
-        key: desk.number * DESK_SPAN,
+        key,
         span: DESK_SPAN,
         left: desk.depth,
         code: 0,
@@ -131,11 +132,8 @@ fn visit(
     let mut a: u32 = 0;
     while a < desk.symbols {
         let next = kids.next;
-        let child = Context {
-            key,
-            span,
-            left: here.left - 1,
-        };
+        let left = here.left - 1;
+        let child = Context { key, span, left };
         let w = visit(numbers, kept, n, desk, costs, child, next);
         kids = and_child(kids, w);
         key += span;
@@ -390,12 +388,14 @@ fn write_from(
     let mut code = spot.code;
     let mut a: u32 = 0;
     while a < desk.symbols {
+        let left = spot.left - 1;
+        let power = 8 * spot.power;
         let child = Spot {
             key,
             span,
-            left: spot.left - 1,
+            left,
             code,
-            power: 8 * spot.power,
+            power,
             way,
         };
         past = write_from(numbers, n, kept, desk, costs, sheet, child, past);

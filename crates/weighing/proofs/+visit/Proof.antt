@@ -12,6 +12,7 @@ use mathlib.Core.List.{List}
 use Rattle.rows.specs.Walk.{older}
 use Rattle.weighing.specs.Visit.{Ready, Visited}
 use Rattle.weighing.proofs.Visiting as visiting
+use Rattle.weighing.proofs.Steps as steps
 use Rattle.weighing.proofs.Turning as turning
 use borrow.Fn.Kinds.{In}
 use borrow.Fn.PlainCycle.{Measures, is, falls, and}
@@ -99,7 +100,7 @@ visit-returns-2 t c = let s = c .before .before .before .before .before .before 
 
 visit-add-key : (t : ℕ) → visit-lts.Need-add-key (visit-calls t) (visit-at t) visit.Post visit-Inv-loop visit-μ-loop
 visit-add-key t c = let s = c .before .before .before .before .before .before .before .before .before in
-    record { fits = turning.key-fits (s .args .desk) (s .args .costs) (s .args .n) (s .args .numbers .now) (contextOf (s .args .here .key)) (s .args .here) (s .args .at) (s .pre .1 .1) (c .before .before .if2 .left) }
+    record { fits = steps.key-fits (s .args .desk) (s .args .costs) (s .args .n) (s .args .numbers .now) (contextOf (s .args .here .key)) (s .args .here) (s .args .at) (s .pre .1 .1) (c .before .before .if2 .left) }
 
 visit-add-none-yet : (t : ℕ) → visit-lts.Need-add-none-yet (visit-calls t) (visit-at t) visit.Post visit-Inv-loop visit-μ-loop
 visit-add-none-yet t c = let s = c .before .before .before .before .before .before .before .before .before in
@@ -113,8 +114,8 @@ visit-loop-holds t c = let s = c .before .before .before .before .before .before
     let z = c .none-yet .ensures in
     (refl, turning.turns-begin (s .args .desk) (s .args .costs) (s .args .n) (s .args .numbers .now) (contextOf (s .args .here .key)) (s .args .here) (s .args .at) (s .pre .1 .1) (c .before .before .before .if2 .left) (visit-on t (c .before .before .before .before .before .before)) (s .args .kept .now) (c .none-yet .result) (z .least) (z .rows) (z .onward))
 
-visit-sub-t23 : (t : ℕ) → visit-lts.Need-sub-t23 (visit-calls t) (visit-at t) visit.Post visit-Inv-loop visit-μ-loop
-visit-sub-t23 t c = omega (arith, c .before .before .before .before .before .before .before .if2 .left)
+visit-sub-left : (t : ℕ) → visit-lts.Need-sub-left (visit-calls t) (visit-at t) visit.Post visit-Inv-loop visit-μ-loop
+visit-sub-left t c = omega (arith, c .before .before .before .before .before .before .before .if2 .left)
 
 visit-visit-requires : (t : ℕ) → visit-lts.Need-visit-requires (visit-calls t) (visit-at t) visit.Post visit-Inv-loop visit-μ-loop
 visit-visit-requires t c κs = let s = c .before .before .before .before .before .before .before .before .before .before .before .before .before .before .before in
@@ -215,7 +216,7 @@ pub +visit-spec : {M : Type 1} → statement M
     (visit-add-none-yet t)
     (visit-none-yet-requires t)
     (visit-loop-holds t)
-    (visit-sub-t23 t)
+    (visit-sub-left t)
     (visit-visit-requires t)
     (visit-and-child-requires t)
     (visit-add-key-2 t)
