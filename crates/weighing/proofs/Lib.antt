@@ -8,6 +8,7 @@ pub mod Marks
 pub mod Visiting
 pub mod Steps
 pub mod Turning
+pub mod Turned
 pub mod Planning
 pub mod Sheets
 pub mod Putting

@@ -13,6 +13,7 @@ use Rattle.rows.specs.Walk.{older}
 use Rattle.weighing.specs.Visit.{Ready, Visited}
 use Rattle.weighing.proofs.Visiting as visiting
 use Rattle.weighing.proofs.Steps as steps
+use Rattle.weighing.proofs.Turned as turned
 use Rattle.weighing.proofs.Turning as turning
 use borrow.Fn.Kinds.{In}
 use borrow.Fn.PlainCycle.{Measures, is, falls, and}
@@ -112,7 +113,7 @@ visit-none-yet-requires t c κs = tt
 visit-loop-holds : (t : ℕ) → visit-lts.Need-loop-holds (visit-calls t) (visit-at t) visit.Post visit-Inv-loop visit-μ-loop
 visit-loop-holds t c = let s = c .before .before .before .before .before .before .before .before .before .before in
     let z = c .none-yet .ensures in
-    (refl, turning.turns-begin (s .args .desk) (s .args .costs) (s .args .n) (s .args .numbers .now) (contextOf (s .args .here .key)) (s .args .here) (s .args .at) (s .pre .1 .1) (c .before .before .before .if2 .left) (visit-on t (c .before .before .before .before .before .before)) (s .args .kept .now) (c .none-yet .result) (z .least) (z .rows) (z .onward))
+    (refl, turned.turns-begin (s .args .desk) (s .args .costs) (s .args .n) (s .args .numbers .now) (contextOf (s .args .here .key)) (s .args .here) (s .args .at) (s .pre .1 .1) (c .before .before .before .if2 .left) (visit-on t (c .before .before .before .before .before .before)) (s .args .kept .now) (c .none-yet .result) (z .least) (z .rows) (z .onward))
 
 visit-sub-left : (t : ℕ) → visit-lts.Need-sub-left (visit-calls t) (visit-at t) visit.Post visit-Inv-loop visit-μ-loop
 visit-sub-left t c = omega (arith, c .before .before .before .before .before .before .before .if2 .left)
@@ -182,7 +183,7 @@ visit-as-split-requires : (t : ℕ) → visit-lts.Need-as-split-requires (visit-
 visit-as-split-requires t c κs = let s = c .before .before .before .before .before .before .before .before .before .before .before .before .before .before in
     let m = c .before .before .before .loop in (
       visiting.own-small (s .args .desk) (s .args .costs) (s .args .n) (s .args .numbers .now) (contextOf (s .args .here .key)) (s .args .here) (s .args .at) (s .pre .1 .1) (visit-on t (c .before .before .before .before .before .before .before .before .before .before)) (c .before .before .before .before .before .before .before .before .before .losses-at .result) (c .before .before .before .before .before .before .before .before .before .losses-at .ensures),
-      turning.rows-small (s .args .desk) (s .args .costs) (s .args .n) (s .args .numbers .now) (contextOf (s .args .here .key)) (s .args .here) (s .args .at) (s .pre .1 .1) (c .before .before .before .before .before .before .before .if2 .left) (visit-on t (c .before .before .before .before .before .before .before .before .before .before)) (s .args .kept .now) (m .kept) (m .a) (m .key) (m .kids) (m .inv .1) (c .before .if3 .left),
+      turned.rows-small (s .args .desk) (s .args .costs) (s .args .n) (s .args .numbers .now) (contextOf (s .args .here .key)) (s .args .here) (s .args .at) (s .pre .1 .1) (c .before .before .before .before .before .before .before .if2 .left) (visit-on t (c .before .before .before .before .before .before .before .before .before .before)) (s .args .kept .now) (m .kept) (m .a) (m .key) (m .kids) (m .inv .1) (c .before .if3 .left),
     )
 
 visit-same-length-2 : (t : ℕ) → visit-lts.Need-same-length-2 (visit-calls t) (visit-at t) visit.Post visit-Inv-loop visit-μ-loop
@@ -193,7 +194,7 @@ visit-returns-3 t c = let s = c .before .before .before .before .before .before 
     let m = c .before .before .before .before .loop in
     let o = c .before .before .before .before .before .before .before .before .before .before .losses-at in
     let on = visit-on t (c .before .before .before .before .before .before .before .before .before .before .before) in
-    turning.turns-end (s .args .desk) (s .args .costs) (s .args .n) (s .args .numbers .now) (contextOf (s .args .here .key)) (s .args .here) (s .args .at) (s .pre .1 .1) (c .before .before .before .before .before .before .before .before .if2 .left) on (s .args .kept .now) (m .kept) (m .a) (m .key) (m .kids) (m .inv .1) (c .before .before .if3 .left) (o .result) (visiting.own-losses (s .args .desk) (s .args .costs) (s .args .n) (s .args .numbers .now) (contextOf (s .args .here .key)) (s .args .here) (s .args .at) (s .pre .1 .1) on (o .result) (o .ensures))
+    turned.turns-end (s .args .desk) (s .args .costs) (s .args .n) (s .args .numbers .now) (contextOf (s .args .here .key)) (s .args .here) (s .args .at) (s .pre .1 .1) (c .before .before .before .before .before .before .before .before .if2 .left) on (s .args .kept .now) (m .kept) (m .a) (m .key) (m .kids) (m .inv .1) (c .before .before .if3 .left) (o .result) (visiting.own-losses (s .args .desk) (s .args .costs) (s .args .n) (s .args .numbers .now) (contextOf (s .args .here .key)) (s .args .here) (s .args .at) (s .pre .1 .1) on (o .result) (o .ensures))
     (c .before .split-mark .result) (c .before .split-mark .ensures) (omega (arith, m .inv .0, s .pre .1 .0)) (c .as-split .result) (c .as-split .ensures)
 
 pub +visit-spec : {M : Type 1} → statement M
