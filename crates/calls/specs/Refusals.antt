@@ -1,13 +1,19 @@
 -- Document 01's number of each refusal, and what each answer of the code says in the room's machine. Assumes nothing.
-use Prim.Native.Nat.{ℕ}
+use Prim.Native.Nat.{ℕ, _*_}
+use mathlib.Core.List.{List}
+use lib.ListN.{drop}
 use Rattle.replay.specs.Table.{Outcome, refused, answered}
-use Rattle.rules.specs.Rules.{Answer, done, room}
+use Rattle.rows.specs.Rows.{rowWidth, readRows}
+use Rattle.rules.specs.Report.{Reported}
+use Rattle.rules.specs.Rules.{Answer, done, room, reported}
 use Rattle.calls.specs.declared.Refusal.{Refusal}
 use Rattle.calls.specs.declared.Refusal.the-variants.{Unsound, NoSuchDesk, AlreadyOpen, NotOpen, OutsideLimits, BadReservation, NoRoom, NotOfSitting, SampleFull, PastReservation, SampleEmpty, SheetShort}
 use Rattle.calls.specs.declared.Verdict.{Verdict}
 use Rattle.calls.specs.declared.Verdict.the-variants as verdict
 use Rattle.calls.specs.declared.RoomLeft.{RoomLeft}
 use Rattle.calls.specs.declared.RoomLeft.the-variants as question
+use Rattle.calls.specs.declared.ReportAnswer.{ReportAnswer}
+use Rattle.calls.specs.declared.ReportAnswer.the-variants as written
 
 abbrev pub refusalNumber : Refusal → ℕ
 refusalNumber Unsound = 1
@@ -31,3 +37,8 @@ outcomeOf (verdict.Refused why) = refused (refusalNumber why)
 abbrev pub roomOf : RoomLeft → Outcome Answer
 roomOf (question.Contexts n) = answered (room n)
 roomOf (question.Refused why) = refused (refusalNumber why)
+
+-- a report's rows are those read from the sheet that it leaves, from row `place` on
+abbrev pub reportOf : ReportAnswer → ℕ → List ℕ → Outcome Answer
+reportOf (written.Rows n score) place sheet = answered (reported (record { rows = readRows n (drop (rowWidth * place) sheet); score = score }))
+reportOf (written.Refused why) place sheet = refused (refusalNumber why)

@@ -30,6 +30,12 @@ pub enum RoomLeft {
     Refused(Refusal),
 }
 
+// The answer of a report: the row count and the doubled score. The rows are on the sheet.
+pub enum ReportAnswer {
+    Rows(u32, i64),
+    Refused(Refusal),
+}
+
 // A refusal's number in document 01's table.
 pub fn number_of(why: Refusal) -> u32
     ensures { λ r. ⌜ r ≡ refusalNumber why ⌝ }

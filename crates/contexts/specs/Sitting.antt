@@ -1,5 +1,5 @@
 -- A sitting: what a report, a chart question and a feed speak of. Assumes nothing.
-use Prim.Native.Nat.{ℕ, _+_}
+use Prim.Native.Nat.{ℕ, zero, suc, _+_}
 use mathlib.Core.Bool.{Bool, true, false}
 use mathlib.Core.List.{List, [], _∷_}
 use lib.ListN.{length, getD}
@@ -18,6 +18,11 @@ sameSample first first = true
 sameSample first second = false
 sameSample second first = false
 sameSample second second = true
+
+-- sample 0 is the first, sample 1 the second
+abbrev pub sampleOf : ℕ → Sample
+sampleOf zero = first
+sampleOf (suc i) = second
 
 pub record Sitting : Type 0 where
   -- A and D

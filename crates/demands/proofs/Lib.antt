@@ -1,1 +1,3 @@
 pub mod Marked
+pub mod Contracts
+pub mod Demands

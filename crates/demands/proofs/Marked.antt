@@ -3,17 +3,23 @@ use mathlib.Core.Path.{refl}
 use Rattle.numbers.specs.Sum.{sum}
 use Rattle.logarithm.specs.Logarithm.{L}
 use Rattle.contexts.specs.Context.{codeOf}
-use Rattle.contexts.specs.Counts.{N}
+use Rattle.contexts.specs.Strings.{total}
+use Rattle.estimate.specs.Score.{sumℤ, totalℤ}
 use Rattle.estimate.specs.Recursion.{spread, best, joint, tree, estimate}
 use Rattle.rows.specs.Members.{gather, members}
-use Rattle.rows.specs.Rows.{scoreOf}
+use Rattle.replay.specs.Room.{reserved, left}
+use Rattle.replay.specs.Table.{verdictOf}
+use Rattle.replay.specs.Machine.{put, settle, outsideLimits, zeroOrAboveK, aboveRoomLeft, openingTable, ownLines, askingTable, tableAt, tableOf, answerAt, answerOf, verdict, moved, shift, move}
+use Rattle.replay.specs.Serial.{outcomes}
+use Rattle.rules.specs.Feed.{fed}
+use Rattle.rules.specs.Rules as sitting
 use Rattle.demands.specs.Marked.{AllHold, marked, wider}
 
 -- THEOREM
 pub marked-hold : AllHold marked
-unfolding marked L N sum codeOf spread best joint tree estimate gather members scoreOf
+unfolding marked L sum codeOf total sumℤ totalℤ spread best joint tree estimate gather members reserved left verdictOf put settle outsideLimits zeroOrAboveK aboveRoomLeft openingTable ownLines askingTable tableAt tableOf answerAt answerOf verdict moved shift move outcomes fed sitting.linesOf sitting.answerOf sitting.nextOf
 marked-hold = refl
 
 pub wider-hold : AllHold wider
-unfolding wider L N sum codeOf spread best joint tree estimate gather members scoreOf
+unfolding wider L sum codeOf total sumℤ totalℤ spread best joint tree estimate gather members reserved left verdictOf put settle outsideLimits zeroOrAboveK aboveRoomLeft openingTable ownLines askingTable tableAt tableOf answerAt answerOf verdict moved shift move outcomes fed sitting.linesOf sitting.answerOf sitting.nextOf
 wider-hold = refl

@@ -1,60 +1,94 @@
--- "The eleven marked examples (six values, J1 to J5) are proved together by a single statement over a list." Beside them stand two with more
--- than two symbols, since no J example tests the factor A - 1. Assumes nothing.
-use Prim.Native.Nat.{ℕ}
+-- "The eleven marked examples (six values, J1 to J5) are proved together by a single statement over a list." The J examples are told of the room's
+-- machine: a desk of a new room is opened, the first sample is fed, then the second, and a report is asked for. Beside them stand two with more than
+-- two symbols, since no J example tests the factor A - 1. Assumes nothing.
+use Prim.Native.Nat.{ℕ, _*_}
 use mathlib.Core.Path.{_≡_}
-use mathlib.Core.List.{List, [], _∷_, _++_, map, reverse}
-use lib.ListN.{take, replicate}
+use mathlib.Core.List.{List, [], _∷_, _++_, map}
+use lib.ListN.{take, replicate, length}
 use lib.IntN.{ℤ, pos, negℤ}
 use Rattle.numbers.specs.Limits.{mostSymbols}
 use Rattle.logarithm.specs.Logarithm.{L}
-use Rattle.contexts.specs.Sitting.{Sample, first, second, Sitting, sittingOf}
-use Rattle.rows.specs.Members.{members}
-use Rattle.rows.specs.Rows.{numbersOf, reportOf, scoreOf}
-use Rattle.estimate.specs.Recursion.{estimateOf}
+use Rattle.rows.specs.Rows.{numbersOf}
+use Rattle.replay.specs.Room.{new}
+use Rattle.replay.specs.Table.{Outcome, refused, answered}
+use Rattle.replay.specs.Machine.{opening, asking, Call, atDesk}
+use Rattle.replay.specs.Serial.{outcomes}
+use Rattle.rules.specs.Rules.{Answer, done, room, reported, point, feed, reporting, rules}
 
--- two samples, each oldest first, of a sitting with A and D; every place is counted
-abbrev pub pasts : List ℕ → List ℕ → Sample → List ℕ
-pasts w v first = reverse w
-pasts w v second = reverse v
+-- ---- the calls of a sitting
 
-abbrev pub sitting : ℕ → ℕ → List ℕ → List ℕ → Sitting
-sitting A D w v = sittingOf A D 0 (pasts w v)
+-- symbols fed to a sample, oldest first
+abbrev pub feeds : ℕ → List ℕ → List (Call rules)
+feeds i w = map (λ a. atDesk 0 (asking (feed i a))) w
+
+-- desk 0 opened with A, D and r, the two samples fed, and a report on a sheet of 44 numbers from row 0 on
+abbrev pub callsOf : ℕ → ℕ → ℕ → List ℕ → List ℕ → List (Call rules)
+callsOf A D r w v = atDesk 0 (opening (record { symbols = A; depth = D; reserve = r })) ∷ (feeds 0 w ++ (feeds 1 v ++ (atDesk 0 (asking (reporting 44 0)) ∷ [])))
+
+-- ---- what is told
+
+-- a call was done, or refused by its number; or its rows, each as its eleven numbers, and the doubled score
+pub data Told : Type 0 where
+  did : Told
+  number : ℕ → Told
+  rows : List (List ℕ) → ℤ → Told
+  other : Told
+
+abbrev pub tell : Outcome Answer → Told
+tell (refused n) = number n
+tell (answered done) = did
+tell (answered (reported x)) = rows (map numbersOf (x .rows)) (x .score)
+tell (answered (room n)) = other
+tell (answered (point c)) = other
 
 -- a row's eleven numbers: "0 for symbols from A up"
 abbrev pub row : ℕ → ℕ → ℕ → List ℕ → List ℕ
 row kind len code counts = kind ∷ len ∷ code ∷ take mostSymbols (counts ++ replicate mostSymbols 0)
 
--- L(n), or the report of a sitting
+-- ---- examples
+
+-- L(n); or the calls of a sitting with A, D, r and two samples, on a new room of r contexts
 pub data Question : Type 0 where
   logarithm : ℕ → Question
-  reportOn : Sitting → Question
+  sitting : ℕ → ℕ → ℕ → List ℕ → List ℕ → Question
 
--- a value; or the rows, each as its eleven numbers, and the doubled score
-pub data Answer : Type 0 where
-  value : ℕ → Answer
-  rows : List (List ℕ) → ℤ → Answer
+-- a value; or: everything is done, and the report has these rows and this score; or: what each call is told
+pub data Given : Type 0 where
+  value : ℕ → Given
+  reports : List (List ℕ) → ℤ → Given
+  each : List Told → Given
 
--- what the model answers
-abbrev pub answerOf : Question → Answer
-answerOf (logarithm n) = value (L n)
-answerOf (reportOn x) = rows (map numbersOf (reportOf x)) (scoreOf x (members (x .symbols) (x .depth) (estimateOf x)))
-
--- a question with the answer that document 01 gives
 infix 68 _gives_
 pub data Example : Type 0 where
-  _gives_ : Question → Answer → Example
+  _gives_ : Question → Given → Example
 
-abbrev pub asked : Example → Question
-asked (q gives a) = q
+pub data Answers : Type 0 where
+  isValue : ℕ → Answers
+  areTold : List Told → Answers
 
-abbrev pub given : Example → Answer
-given (q gives a) = a
+-- what the model answers
+abbrev pub answered-to : Question → Answers
+answered-to (logarithm n) = isValue (L n)
+answered-to (sitting A D r w v) = areTold (map tell (outcomes rules (new r) (callsOf A D r w v)))
+
+-- what the example says
+abbrev pub expected : Question → Given → Answers
+expected q (value k) = isValue k
+expected (sitting A D r w v) (reports ls n) = areTold (did ∷ (map (λ a. did) w ++ (map (λ a. did) v ++ (rows ls n ∷ []))))
+expected (logarithm n) (reports ls s) = areTold []
+expected q (each ts) = areTold ts
+
+abbrev pub asked : Example → Answers
+asked (q gives a) = answered-to q
+
+abbrev pub given : Example → Answers
+given (q gives a) = expected q a
 
 -- every example's answer is the model's
 abbrev pub AllHold : List Example → Type 0
-AllHold es = map (λ e. answerOf (asked e)) es ≡ map given es
+AllHold es = map asked es ≡ map given es
 
--- the six values, and J1 to J5
+-- the six values, and J1 to J5; J1 "needs r 3; with r 2 the third feed of the first sample gets 10"
 unfoldable pub marked : List Example
 marked =
     logarithm 1 gives value 0
@@ -63,16 +97,17 @@ marked =
     ∷ logarithm 9 gives value 3246
     ∷ logarithm 1023 gives value 10238
     ∷ logarithm 1024 gives value 10240
-    ∷ reportOn (sitting 2 1 (0 ∷ 1 ∷ 0 ∷ 1 ∷ []) (0 ∷ 1 ∷ 0 ∷ 1 ∷ [])) gives rows (row 0 1 0 (0 ∷ 4 ∷ []) ∷ row 0 1 1 (2 ∷ 0 ∷ []) ∷ []) (negℤ (pos 6144))
-    ∷ reportOn (sitting 2 1 (0 ∷ 1 ∷ 0 ∷ 1 ∷ []) (0 ∷ 0 ∷ 0 ∷ 0 ∷ [])) gives rows (row 2 0 0 (4 ∷ 0 ∷ []) ∷ row 1 1 0 (0 ∷ 2 ∷ []) ∷ row 1 1 1 (1 ∷ 0 ∷ []) ∷ []) (negℤ (pos 6144))
-    ∷ reportOn (sitting 2 1 (0 ∷ 1 ∷ 0 ∷ 1 ∷ 0 ∷ 1 ∷ 0 ∷ 1 ∷ []) (0 ∷ 0 ∷ 1 ∷ 0 ∷ 0 ∷ 1 ∷ 0 ∷ 0 ∷ [])) gives rows (row 1 1 0 (0 ∷ 4 ∷ []) ∷ row 2 1 0 (3 ∷ 2 ∷ []) ∷ row 0 1 1 (5 ∷ 0 ∷ []) ∷ []) (negℤ (pos 20176))
-    ∷ reportOn (sitting 2 0 (0 ∷ 1 ∷ 0 ∷ 1 ∷ []) (0 ∷ 1 ∷ 0 ∷ 1 ∷ [])) gives rows (row 0 0 0 (4 ∷ 4 ∷ []) ∷ []) (negℤ (pos 19456))
-    ∷ reportOn (sitting 2 1 (0 ∷ []) (0 ∷ [])) gives rows (row 1 0 0 (1 ∷ 0 ∷ []) ∷ row 2 0 0 (1 ∷ 0 ∷ []) ∷ []) (negℤ (pos 0))
+    ∷ sitting 2 1 3 (0 ∷ 1 ∷ 0 ∷ 1 ∷ []) (0 ∷ 1 ∷ 0 ∷ 1 ∷ []) gives reports (row 0 1 0 (0 ∷ 4 ∷ []) ∷ row 0 1 1 (2 ∷ 0 ∷ []) ∷ []) (negℤ (pos 6144))
+    ∷ sitting 2 1 2 (0 ∷ 1 ∷ 0 ∷ []) [] gives each (did ∷ did ∷ did ∷ number 10 ∷ number 11 ∷ [])
+    ∷ sitting 2 1 3 (0 ∷ 1 ∷ 0 ∷ 1 ∷ []) (0 ∷ 0 ∷ 0 ∷ 0 ∷ []) gives reports (row 2 0 0 (4 ∷ 0 ∷ []) ∷ row 1 1 0 (0 ∷ 2 ∷ []) ∷ row 1 1 1 (1 ∷ 0 ∷ []) ∷ []) (negℤ (pos 6144))
+    ∷ sitting 2 1 3 (0 ∷ 1 ∷ 0 ∷ 1 ∷ 0 ∷ 1 ∷ 0 ∷ 1 ∷ []) (0 ∷ 0 ∷ 1 ∷ 0 ∷ 0 ∷ 1 ∷ 0 ∷ 0 ∷ []) gives reports (row 1 1 0 (0 ∷ 4 ∷ []) ∷ row 2 1 0 (3 ∷ 2 ∷ []) ∷ row 0 1 1 (5 ∷ 0 ∷ []) ∷ []) (negℤ (pos 20176))
+    ∷ sitting 2 0 1 (0 ∷ 1 ∷ 0 ∷ 1 ∷ []) (0 ∷ 1 ∷ 0 ∷ 1 ∷ []) gives reports (row 0 0 0 (4 ∷ 4 ∷ []) ∷ []) (negℤ (pos 19456))
+    ∷ sitting 2 1 1 (0 ∷ []) (0 ∷ []) gives reports (row 1 0 0 (1 ∷ 0 ∷ []) ∷ row 2 0 0 (1 ∷ 0 ∷ []) ∷ []) (negℤ (pos 0))
     ∷ []
 
 -- a split of both with a context that is each sample's own, at A = 3; a shared leaf at A = 8
 unfoldable pub wider : List Example
 wider =
-    reportOn (sitting 3 2 (0 ∷ 1 ∷ 2 ∷ 0 ∷ 1 ∷ 2 ∷ 0 ∷ 1 ∷ 2 ∷ 0 ∷ 1 ∷ 2 ∷ []) (0 ∷ 1 ∷ 1 ∷ 0 ∷ 1 ∷ 1 ∷ 0 ∷ 1 ∷ 1 ∷ 0 ∷ 1 ∷ 1 ∷ [])) gives rows (row 0 1 0 (0 ∷ 8 ∷ 0 ∷ []) ∷ row 1 1 1 (0 ∷ 0 ∷ 4 ∷ []) ∷ row 2 1 1 (3 ∷ 4 ∷ 0 ∷ []) ∷ row 0 1 2 (3 ∷ 0 ∷ 0 ∷ []) ∷ []) (negℤ (pos 47578))
-    ∷ reportOn (sitting 8 1 (0 ∷ 7 ∷ 0 ∷ 7 ∷ 0 ∷ 7 ∷ 0 ∷ 7 ∷ 0 ∷ 7 ∷ []) (0 ∷ 7 ∷ 0 ∷ 7 ∷ 0 ∷ 7 ∷ 0 ∷ 7 ∷ 0 ∷ 1 ∷ [])) gives rows (row 0 0 0 (10 ∷ 1 ∷ 0 ∷ 0 ∷ 0 ∷ 0 ∷ 0 ∷ 9 ∷ []) ∷ []) (negℤ (pos 81527))
+    sitting 3 2 9 (0 ∷ 1 ∷ 2 ∷ 0 ∷ 1 ∷ 2 ∷ 0 ∷ 1 ∷ 2 ∷ 0 ∷ 1 ∷ 2 ∷ []) (0 ∷ 1 ∷ 1 ∷ 0 ∷ 1 ∷ 1 ∷ 0 ∷ 1 ∷ 1 ∷ 0 ∷ 1 ∷ 1 ∷ []) gives reports (row 0 1 0 (0 ∷ 8 ∷ 0 ∷ []) ∷ row 1 1 1 (0 ∷ 0 ∷ 4 ∷ []) ∷ row 2 1 1 (3 ∷ 4 ∷ 0 ∷ []) ∷ row 0 1 2 (3 ∷ 0 ∷ 0 ∷ []) ∷ []) (negℤ (pos 47578))
+    ∷ sitting 8 1 4 (0 ∷ 7 ∷ 0 ∷ 7 ∷ 0 ∷ 7 ∷ 0 ∷ 7 ∷ 0 ∷ 7 ∷ []) (0 ∷ 7 ∷ 0 ∷ 7 ∷ 0 ∷ 7 ∷ 0 ∷ 7 ∷ 0 ∷ 1 ∷ []) gives reports (row 0 0 0 (10 ∷ 1 ∷ 0 ∷ 0 ∷ 0 ∷ 0 ∷ 0 ∷ 9 ∷ []) ∷ []) (negℤ (pos 81527))
     ∷ []

@@ -8,6 +8,7 @@ use native.Mathlib.Numerals.{add-one}
 use native.Mathlib.Omega.{arith}
 use borrow.Author.Tests.{le-ltb}
 use lib.ListN.{length, take, getD, length-take}
+use Rattle.contexts.specs.Sitting.{sampleOf}
 use Rattle.numbers.specs.Limits.{mostSymbols, deepest}
 use Rattle.numbers.specs.Sum.{one, sum}
 use Rattle.numbers.proofs.Orders.{less, same, more, order}
@@ -15,7 +16,7 @@ use Rattle.contexts.specs.Keys.{deskSpan, keyOf}
 use Rattle.records.specs.Records.{width, records, lookup}
 use Rattle.records.specs.Held.{held, Rising}
 use Rattle.records.specs.Bumped.{cellOf, bumpedAt, Bumpable, Written}
-use Rattle.records.specs.Fed.{sampleOf, fedTo, fed, missing, Feedable}
+use Rattle.records.specs.Fed.{fedTo, fed, missing, Feedable}
 use Rattle.records.proofs.Parts.{length-parts}
 use Rattle.records.proofs.Lent.{agree-later}
 use Rattle.records.proofs.Bumping.{length-bumped}

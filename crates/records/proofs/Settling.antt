@@ -4,10 +4,11 @@ use mathlib.Core.List.{List}
 use Prim.Native.Nat.{ℕ, _+_}
 use native.Mathlib.Omega.{arith}
 use lib.ListN.{length}
+use Rattle.contexts.specs.Sitting.{sampleOf}
 use Rattle.records.specs.Records.{width, records}
 use Rattle.records.specs.Held.{keep, ofDesk, without, Standing, Removable}
 use Rattle.records.specs.Bumped.{Written}
-use Rattle.records.specs.Fed.{sampleOf, fed, missing, Feedable}
+use Rattle.records.specs.Fed.{fed, missing, Feedable}
 use Rattle.records.proofs.Parts.{length-parts, same-numbers}
 use Rattle.records.proofs.Feeding.{rising-fed}
 use Rattle.records.proofs.Growing.{length-fed}

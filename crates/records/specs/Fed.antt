@@ -8,15 +8,10 @@ use Rattle.numbers.specs.Limits.{mostSymbols, deepest, longest, desks}
 use Rattle.numbers.specs.Sum.{one, sum}
 use Rattle.contexts.specs.Context.{isContext}
 use Rattle.contexts.specs.Keys.{keyOf}
-use Rattle.contexts.specs.Sitting.{Sample, first, second}
+use Rattle.contexts.specs.Sitting.{Sample, sampleOf}
 use Rattle.records.specs.Records.{width, records}
 use Rattle.records.specs.Held.{held, countAt, Standing}
 use Rattle.records.specs.Bumped.{bumped}
-
--- sample 0 is the first, sample 1 the second
-abbrev pub sampleOf : ℕ → Sample
-sampleOf zero = first
-sampleOf (suc i) = second
 
 -- one more of symbol a in sample i for the first j of the contexts take 0 recent, take 1 recent, .. of desk d
 unfoldable pub fedTo : ℕ → ℕ → Sample → ℕ → List ℕ → List (List ℕ) → List (List ℕ)

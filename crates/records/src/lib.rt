@@ -7,11 +7,11 @@ ghost use Prim.Native.Nat.{_+_, _-_, _*_, _^_, _≤_, _<_};
 ghost use lib.ListN.{length, take, drop, getD};
 ghost use Rattle.numbers.specs.Limits.{longest};
 ghost use Rattle.numbers.specs.Sum.{one};
-ghost use Rattle.contexts.specs.Sitting.{eight};
+ghost use Rattle.contexts.specs.Sitting.{eight, sampleOf};
 ghost use Rattle.records.specs.Records.{width, records, blank, lookup};
 ghost use Rattle.records.specs.Held.{held, recordAt, tableOf, without, Standing, Removable, Placed};
 ghost use Rattle.records.specs.Bumped.{raised, bumpedAt, Cell, Bumpable, Written};
-ghost use Rattle.records.specs.Fed.{sampleOf, fed, missing, Askable, Feedable};
+ghost use Rattle.records.specs.Fed.{fed, missing, Askable, Feedable};
 
 // How many numbers a record has.
 const WIDTH: usize = 24;

@@ -12,7 +12,7 @@ use Rattle.numbers.specs.Sum.{one}
 use Rattle.contexts.specs.Context.{isContext}
 use Rattle.contexts.specs.Context as string
 use Rattle.contexts.specs.Counts.{N}
-use Rattle.contexts.specs.Sitting.{Sample, first, second, sameSample, Progress}
+use Rattle.contexts.specs.Sitting.{Sample, first, second, sameSample, Progress, sampleOf}
 use Rattle.contexts.proofs.Strings.{context-cons, context-length}
 use Rattle.replay.specs.Room.{Making, Opening, Desk, closed, opened, new}
 use Rattle.replay.specs.Table.{NoneApplies}
@@ -20,7 +20,7 @@ use Rattle.replay.specs.Machine.{Call}
 use Rattle.replay.specs.Serial.{Told, outcomes, after, struck, sittings}
 use Rattle.replay.specs.Alone.{Alone, begins, goes-on, ends, asks}
 use Rattle.replay.proofs.Reached.{asks-append, open-alone}
-use Rattle.rules.specs.Feed.{countedFrom, sampleOf, fresh, fed, notOfSitting}
+use Rattle.rules.specs.Feed.{countedFrom, fresh, fed, notOfSitting}
 use Rattle.rules.specs.Rules.{Ask, feed, reporting, charting, rules, linesOf, nextOf}
 use Rattle.rules.specs.Strings.{push, longer, stringsOf, StandsFor, OfOwnStrings}
 
@@ -102,11 +102,11 @@ stands-next o w p (reporting sheet place) S n = S
 stands-next o w p (charting len code a) S n = S
 
 -- what a desk stands for: nothing where it is closed
-abbrev DeskFor : (Sample → List ℕ) → Desk Progress → Type 0
+abbrev pub DeskFor : (Sample → List ℕ) → Desk Progress → Type 0
 DeskFor w closed = Unit {0}
 DeskFor w (opened o p) = StandsFor o w p
 
-stands-alone : {ts : List (Told rules)} {D : Desk Progress} → Alone rules ts D → DeskFor (stringsOf (asks rules ts)) D
+pub stands-alone : {ts : List (Told rules)} {D : Desk Progress} → Alone rules ts D → DeskFor (stringsOf (asks rules ts)) D
 unfolding stringsOf asks
 stands-alone (begins o) = stands-fresh o
 stands-alone (goes-on {ts = ts} {o = o} {s = p} al q n) =

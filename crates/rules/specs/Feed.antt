@@ -1,24 +1,19 @@
 -- A feed: one more symbol of a sample (document 01, "Desks and the store"). Assumes nothing.
-use Prim.Native.Nat.{ℕ, zero, suc, _+_}
-use mathlib.Core.Bool.{Bool, cond, _&&_, _||_}
+use Prim.Native.Nat.{ℕ, _+_}
+use mathlib.Core.Bool.{Bool, cond, not, _&&_, _||_}
 use mathlib.Core.List.{List, [], _∷_}
 use lib.ListN.{take}
 use lib.Dec.{eqb, leb, ltb}
 use Rattle.numbers.specs.Limits.{longest}
 use Rattle.numbers.specs.Sum.{one}
 use Rattle.contexts.specs.Context.{begins}
-use Rattle.contexts.specs.Sitting.{Sample, first, second, sameSample, Progress, sat, contextsHeld}
+use Rattle.contexts.specs.Sitting.{Sample, sampleOf, sameSample, Progress, sat, contextsHeld}
 use Rattle.replay.specs.Room.{Opening}
 use Rattle.replay.specs.Table.{Line, _when_}
 
 -- only places with so many symbols before them are counted: every place
 abbrev pub countedFrom : Opening → ℕ
 countedFrom o = 0
-
--- sample 0 is the first, sample 1 the second
-abbrev pub sampleOf : ℕ → Sample
-sampleOf zero = first
-sampleOf (suc n) = second
 
 -- "a desk opens with both samples empty"
 abbrev pub fresh : Opening → Progress

@@ -1,12 +1,12 @@
 -- The room's machine as document 01 has it: what is asked at an open desk, answered there, and what stands after. Assumes nothing.
 use Prim.Native.Nat.{ℕ}
 use mathlib.Core.List.{List}
-use Rattle.contexts.specs.Sitting.{Progress, sat}
+use Rattle.contexts.specs.Sitting.{Progress, sat, sampleOf}
 use Rattle.chart.specs.declared.Chart.{Chart}
 use Rattle.replay.specs.Room.{Opening}
 use Rattle.replay.specs.Table.{Line}
 use Rattle.replay.specs.Machine.{Rules}
-use Rattle.rules.specs.Feed.{fresh, fed, sampleOf, feedLines}
+use Rattle.rules.specs.Feed.{fresh, fed, feedLines}
 use Rattle.rules.specs.Report.{Reported, report, reportLines}
 use Rattle.rules.specs.Question.{charted, chartLines}
 

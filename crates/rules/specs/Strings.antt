@@ -7,11 +7,11 @@ use lib.ListN.{length, take}
 use lib.Dec.{T}
 use Rattle.contexts.specs.Context.{isContext}
 use Rattle.contexts.specs.Counts.{N}
-use Rattle.contexts.specs.Sitting.{Sample, sameSample, Sitting, sittingOf, Progress}
+use Rattle.contexts.specs.Sitting.{Sample, sameSample, Sitting, sittingOf, Progress, sampleOf}
 use Rattle.replay.specs.Room.{Opening}
 use Rattle.replay.specs.Serial.{Course}
 use Rattle.replay.specs.Alone.{asks, OpenAlone}
-use Rattle.rules.specs.Feed.{countedFrom, sampleOf}
+use Rattle.rules.specs.Feed.{countedFrom}
 use Rattle.rules.specs.Rules.{Ask, feed, reporting, charting, rules}
 
 -- symbol a joins sample i's string, most recent first

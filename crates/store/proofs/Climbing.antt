@@ -1,30 +1,28 @@
 -- The pass reads the oldest symbol of a key only: the newer ones are those of its parent. So its test of all records is the declared one.
 -- Assumes nothing.
 use mathlib.Core.Path.{_≡_, refl, sym, ap, subst, _∙_}
-use mathlib.Core.Bool.{Bool, true, false, _&&_, _||_}
-use mathlib.Core.List.{List, [], _∷_, _++_}
-use Prim.Native.Nat.{ℕ, zero, suc, _+_, _-_, _/_, _%_, _≤_, _<_}
+use mathlib.Core.List.{List, [], _∷_}
+use Prim.Native.Nat.{ℕ, zero, suc, _+_, _%_, _≤_, _<_}
 use native.Mathlib.Omega.{arith}
 use lib.Dec.{T, ltb, leb, eqb, ltb→lt, lt→ltb, le→leb, eqb→eq}
 use lib.ListN.{length, getD}
-use Rattle.numbers.specs.Limits.{mostSymbols, deepest, desks}
+use Rattle.numbers.specs.Limits.{deepest, desks}
 use Rattle.numbers.proofs.Tests.{bool-ext, both, left, right, or-rest}
 use Rattle.numbers.proofs.Orders.{less, same, more, order, eq→eqb}
 use Rattle.contexts.specs.Context.{isContext}
-use Rattle.contexts.specs.Keys.{keyOf, deskOf, deskSpan, contextOf}
+use Rattle.contexts.specs.Keys.{keyOf, deskOf, contextOf}
 use Rattle.contexts.specs.Sitting.{Sample, first, second}
 use Rattle.contexts.proofs.Strings.{context-length}
-use Rattle.records.specs.Records.{key, keys, lookup, blank}
+use Rattle.records.specs.Records.{key, lookup}
 use Rattle.store.specs.Layout.{isOpen, symbolsAt, depthAt, totalOf}
 use Rattle.store.specs.Sound.{all, eachSample, keyOk, sampleOk, tableOk, parentOf, parentKey, parentOk, recordOk}
 use Rattle.store.specs.Walk.{lenOf, weight, oldestOk, endsOk, keyFits, ownOk}
 use Rattle.store.proofs.Many.{all-at, all-of, sample-at}
 use Rattle.store.proofs.Strings.{length-snoc, context-snoc, oldest-below}
-use Rattle.store.proofs.Digits.{Ends, contextOf-within, contextOf-length, key-back, key-ends, key-length}
-use Rattle.store.proofs.Parents.{Above, above}
+use Rattle.store.proofs.Digits.{ends-short, Ends, contextOf-within, contextOf-length, key-back, key-ends, key-length}
+use Rattle.store.proofs.Parents.{above}
 use Rattle.store.proofs.Rising.{Found, nothing, there, found, blank-total}
-use Rattle.store.proofs.Marks.{ends-short}
-use Rattle.store.proofs.Walking.{fitOk, KeyFitting, own-key}
+use Rattle.store.proofs.Walking.{fitOk, own-key}
 
 -- ---- a record's table
 

@@ -1,23 +1,23 @@
 -- The way back: a store that is sound in document 01's words passes the test. Assumes nothing.
-use mathlib.Core.Path.{_≡_, refl, sym, ap, subst, _∙_}
-use mathlib.Core.Bool.{Bool, true, _&&_, _||_}
-use mathlib.Core.List.{List, [], _∷_}
+use mathlib.Core.Path.{_≡_, sym, ap, subst, _∙_}
+use mathlib.Core.Bool.{true, _||_}
+use mathlib.Core.List.{List, []}
 use Prim.Native.Nat.{ℕ, _+_, _-_, _≤_, _<_}
 use native.Mathlib.Omega.{arith}
-use lib.Dec.{T, ltb, leb, eqb, lt→ltb, le→leb}
-use lib.ListN.{length, take, getD}
+use lib.Dec.{T, ltb, eqb, lt→ltb, le→leb}
+use lib.ListN.{length, getD}
 use Rattle.numbers.specs.Limits.{mostSymbols, deepest, desks}
 use Rattle.numbers.proofs.Tests.{T?, both, or-left, or-right, of-true}
 use Rattle.numbers.proofs.Orders.{less, same, more, order, eq→eqb}
-use Rattle.contexts.specs.Context.{isContext, begins}
+use Rattle.contexts.specs.Context.{isContext}
 use Rattle.contexts.specs.Keys.{keyOf, deskOf, contextOf}
 use Rattle.contexts.specs.Sitting.{Sample, first, second}
 use Rattle.contexts.proofs.Strings.{begins-take, context-more}
 use Rattle.contexts.proofs.KeyOrder.{Within, deskOf-key, contextOf-key}
 use Rattle.records.specs.Records.{key, keys, countsOf, rises, lookup}
-use Rattle.store.specs.Layout.{headerSize, used, isOpen, symbolsAt, depthAt, sizeAt, slotsAt, recordsIn, eightSum, totalOf}
-use Rattle.store.specs.Sound.{all, below, eachSample, deskOk, heldBy, keyOk, quietFrom, countsOk, sampleOk, tableOk, parentOf, parentKey, parentOk, recordOk, soundb}
-use Rattle.store.specs.Plain.{Open, ContextAt, Counts, recordFor, totalAt, recordAt, Sound}
+use Rattle.store.specs.Layout.{used, isOpen, symbolsAt, depthAt, sizeAt, slotsAt, recordsIn, eightSum, totalOf}
+use Rattle.store.specs.Sound.{below, eachSample, deskOk, heldBy, keyOk, quietFrom, countsOk, sampleOk, tableOk, parentOf, parentOk, recordOk, soundb}
+use Rattle.store.specs.Plain.{Open, ContextAt, recordFor, totalAt, recordAt, Sound}
 use Rattle.store.proofs.Many.{every-of, all-of, sample-of}
 use Rattle.store.proofs.Parts.{records-length}
 use Rattle.store.proofs.Rising.{apart-rises, lookup-at}

@@ -1,17 +1,17 @@
 -- A key's digits: what the arithmetic of the pass says of a key's context and of its parent. Assumes nothing.
-use mathlib.Core.Path.{_≡_, refl, sym, ap, subst, _∙_}
-use mathlib.Core.List.{List, [], _∷_, _++_}
+use mathlib.Core.Path.{_≡_, refl, sym, ap, _∙_}
+use mathlib.Core.List.{List, [], _∷_}
 use Prim.Native.Nat.{ℕ, zero, suc, _+_, _-_, _*_, _/_, _%_, _^_, _≤_, _<_}
 use native.Mathlib.Nat.{mod-lt, mod-eq-of-lt, zero-mod, div-add-mod', div-lt-iff-lt-mul, pow-suc, zero-add, suc-add}
 use native.Mathlib.Omega.{arith}
 use lib.ListN.{length}
-use lib.Arith.{digits-div, digits-mod, mod-mul}
+use lib.Arith.{digits-mod, mod-mul}
 use lib.Dec.{T}
 use Rattle.numbers.specs.Limits.{mostSymbols, deepest}
 use Rattle.contexts.specs.Context.{isContext}
-use Rattle.contexts.specs.Keys.{digits, contextKey, deskSpan, keyOf, deskOf, symbolsOf, contextOf}
+use Rattle.contexts.specs.Keys.{digits, deskSpan, keyOf, deskOf, symbolsOf, contextOf}
 use Rattle.contexts.proofs.Strings.{context-cons, context-length}
-use Rattle.contexts.proofs.KeyOrder.{Within, pow-pos, digits-nil, digits-lt, contextKey-lt, deskOf-key, contextOf-key, key-child}
+use Rattle.contexts.proofs.KeyOrder.{Within, pow-pos, digits-nil}
 use Rattle.store.specs.Walk.{lenOf, weight}
 
 -- a fact of each length below 8
@@ -57,6 +57,16 @@ contextOf-length k h = symbols-length deepest (k % 8) (k % deskSpan / 8) h
 
 abbrev pub Ends : ℕ → Type 0
 Ends k = k % weight (lenOf k) ≡ lenOf k
+
+-- a key with nothing past its length has at most six symbols
+pub ends-short : (k : ℕ) → Ends k → lenOf k ≤ deepest
+unfolding weight
+ends-short k e = go (lenOf k) (omega arith) e
+  where
+    go : (l : ℕ) → l < 8 → k % weight l ≡ l → l ≤ 6
+    go l u = each-length (λ l. k % weight l ≡ l → l ≤ 6)
+        (λ q. omega arith) (λ q. omega arith) (λ q. omega arith) (λ q. omega arith)
+        (λ q. omega arith) (λ q. omega arith) (λ q. omega arith) (λ q. absurd (omega arith)) l u
 
 -- the digits of the symbols of v are v, where the others are 0
 digits-back : (n l j v : ℕ) → l + j ≡ n → v % 8 ^ j ≡ 0 → v < 8 ^ n → digits n (symbolsOf n l v) ≡ v

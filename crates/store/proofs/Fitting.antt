@@ -1,24 +1,23 @@
 -- The meaning of a sound store is within document 01's limits. Assumes nothing.
-use mathlib.Core.Path.{_≡_, refl, sym, ap, _∙_, subst}
-use mathlib.Core.Logic.{_⊎_, inl, inr}
+use mathlib.Core.Path.{_≡_, refl, sym, _∙_, subst}
 use mathlib.Core.Bool.{Bool, true, false, cond, _&&_}
 use mathlib.Core.List.{List, [], _∷_, _++_}
-use Prim.Native.Nat.{ℕ, zero, suc, min, _+_, _≤_, _<_}
+use Prim.Native.Nat.{ℕ, zero, suc, min, _≤_, _<_}
 use native.Mathlib.Omega.{arith}
 use borrow.Author.Tests.{le-ltb, lt-ltb}
 use lib.Dec.{T, ltb, ltb→lt, lt→ltb}
 use lib.ListN.{length, take, length-take}
-use Rattle.numbers.specs.Limits.{deepest, desks}
+use Rattle.numbers.specs.Limits.{desks}
 use Rattle.numbers.specs.Sum.{sum}
-use Rattle.numbers.proofs.Tests.{T?, both, left, right, of-true, is-true, is-false}
+use Rattle.numbers.proofs.Tests.{T?, both, left, right, is-true, is-false}
 use Rattle.numbers.proofs.Sums.{sum-cong}
 use Rattle.contexts.specs.Context.{isContext}
-use Rattle.contexts.specs.Sitting.{Sample, Progress, totalIn}
+use Rattle.contexts.specs.Sitting.{Sample, Progress}
 use Rattle.contexts.proofs.Strings.{context-cons}
-use Rattle.replay.specs.Room.{Opening, Desk, closed, opened, reserved}
-use Rattle.store.specs.Layout.{headerSize, room, isOpen, symbolsAt, depthAt, sizeAt, slotsAt}
+use Rattle.replay.specs.Room.{Opening, closed, opened, reserved}
+use Rattle.store.specs.Layout.{isOpen, symbolsAt, depthAt, sizeAt, slotsAt}
 use Rattle.store.specs.Sound.{all, below, reservedAt, soundb}
-use Rattle.store.specs.Plain.{Open, ContextAt}
+use Rattle.store.specs.Plain.{Open}
 use Rattle.store.specs.Meaning.{openingAt, progressAt, deskAt, meaning, SittingFits, Fits}
 use Rattle.store.proofs.Strings.{context-parent}
 use Rattle.store.proofs.Passing.{Passed, passed, desk-passed, context-counts}
@@ -96,6 +95,11 @@ desk-reserved s d l = rw (lt-ltb d desks l) (go (isOpen s d))
     go true = refl
     go false = refl
 
+-- what the desks of the meaning have reserved, as `reserved` answers it
+pub reserved-means : (s : List ℕ) → sum desks (λ d. reserved (meaning s .at d)) ≡ sum desks (reservedAt s)
+unfolding meaning
+reserved-means s = sum-cong desks (λ d l. desk-reserved s d l)
+
 -- THEOREM. The meaning of a store that passes the test is within document 01's limits, also where its counts are those of no string
 pub meaning-fits : (s : List ℕ) → soundb s ≡ true → Fits (meaning s)
 unfolding meaning
@@ -109,7 +113,7 @@ meaning-fits s e =
         | yes n ↦ of-opened s d o p (sym (desk-opened s d n) ∙ q) (sitting-fits s h d n)
         | no n ↦ absurd (let z : closed ≡ opened o p = sym (desk-closed s d n) ∙ q in let w : _≡_ {A = ℕ} 0 1 = cc in omega arith)
       ];
-      reservations = omega (arith, sum-cong desks (λ d l. desk-reserved s d l), h .reserves);
+      reservations = omega (arith, reserved-means s, h .reserves);
     }
   where
     of-opened : (s : List ℕ) (d : ℕ) (o : Opening) (p : Progress) → opened (openingAt s d) (progressAt s d) ≡ opened o p → SittingFits (openingAt s d) (progressAt s d) → SittingFits o p

@@ -1,15 +1,15 @@
 -- The counts of a sound store's meaning: N(s) is a record's total, and a sitting holds as many contexts as its desk has records.
 -- Assumes nothing.
 use mathlib.Core.Path.{_≡_, refl, sym, ap, ap₂, _∙_, subst}
-use mathlib.Core.Bool.{Bool, true, false, cond, _&&_}
-use mathlib.Core.List.{List, [], _∷_}
-use Prim.Native.Nat.{ℕ, _+_, _≤_, _<_}
+use mathlib.Core.Bool.{Bool, true, false, _&&_}
+use mathlib.Core.List.{List, []}
+use Prim.Native.Nat.{ℕ, _+_, _<_}
 use native.Mathlib.Omega.{arith}
 use borrow.Author.Tests.{lt-ltb, le-ltb}
 use lib.Dec.{T, ltb, eqb→eq}
 use lib.ListN.{length, getD}
-use Rattle.numbers.specs.Limits.{mostSymbols, desks}
-use Rattle.numbers.specs.Sum.{one, sum}
+use Rattle.numbers.specs.Limits.{mostSymbols}
+use Rattle.numbers.specs.Sum.{one}
 use Rattle.numbers.proofs.Tests.{left, right, of-true, is-true, is-false}
 use Rattle.numbers.proofs.Orders.{eq→eqb}
 use Rattle.numbers.proofs.Sums.{sum-cong, sum-zero, sum-past}
@@ -17,14 +17,14 @@ use Rattle.contexts.specs.Context.{isContext}
 use Rattle.contexts.specs.Keys.{keyOf, deskOf, contextOf}
 use Rattle.contexts.specs.Sitting.{Sample, first, second, totalIn, isHeld, contextsHeld}
 use Rattle.contexts.proofs.KeyOrder.{deskOf-key}
-use Rattle.records.specs.Records.{key, keys, lookup}
+use Rattle.records.specs.Records.{key}
 use Rattle.store.specs.Layout.{symbolsAt, depthAt, recordsIn, countIn, totalOf, keep, ofDesk}
-use Rattle.store.specs.Sound.{all, heldBy, keyOk, recordOk, soundb}
+use Rattle.store.specs.Sound.{heldBy, recordOk, soundb}
 use Rattle.store.specs.Plain.{Open, ContextAt, recordFor, totalAt}
 use Rattle.store.specs.Meaning.{sittingAt}
 use Rattle.store.proofs.Many.{all-at}
 use Rattle.store.proofs.Rising.{blank-total}
-use Rattle.store.proofs.Climbing.{KeyStands, key-stands, table-seen}
+use Rattle.store.proofs.Climbing.{key-stands, table-seen}
 use Rattle.store.proofs.Passing.{Passed, passed, record-key, record-table, desk-passed, context-within, context-counts}
 use Rattle.store.proofs.Keeping.{hasKey, lookup-lacks, lookup-has, keep-rises, keep-all, keep-has}
 use Rattle.store.proofs.Totalling.{total-within, total-keys}

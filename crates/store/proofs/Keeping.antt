@@ -1,12 +1,12 @@
 -- Laws of the records that are kept, as those of one desk. Assumes nothing.
-use mathlib.Core.Path.{_≡_, refl, sym, ap, _∙_, subst}
+use mathlib.Core.Path.{_≡_, refl, ap, subst}
 use mathlib.Core.Bool.{Bool, true, false, cond, _&&_, _||_}
 use mathlib.Core.List.{List, [], _∷_}
 use Prim.Native.Nat.{ℕ, suc, _≤_, _<_}
 use native.Mathlib.Nat.{le-trans}
 use native.Mathlib.Omega.{arith}
-use borrow.Author.Tests.{eqb-true, ne-eqb}
-use lib.Dec.{T, leb, eqb, leb→le, le→leb, eqb→eq}
+use borrow.Author.Tests.{ne-eqb}
+use lib.Dec.{T, leb, eqb, le→leb, eqb→eq}
 use Rattle.numbers.proofs.Tests.{both, left, right, of-true, is-true, is-false}
 use Rattle.records.specs.Records.{key, keys, rises, lookup, blank}
 use Rattle.store.specs.Layout.{keep}

@@ -19,3 +19,5 @@ pub mod Totalling
 pub mod Holding
 pub mod Fitting
 pub mod Local
+pub mod NewStore
+pub mod Settling

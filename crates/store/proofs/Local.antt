@@ -1,23 +1,23 @@
 -- A desk's meaning depends on its own numbers in the header and its own records alone. Assumes nothing.
-use mathlib.Core.Path.{_≡_, refl, sym, ap, ap₂, _∙_, subst, fun-ext}
-use mathlib.Core.Bool.{Bool, true, false, cond, _&&_}
-use mathlib.Core.List.{List, [], _∷_}
+use mathlib.Core.Path.{_≡_, sym, ap, ap₂, _∙_, subst, fun-ext}
+use mathlib.Core.Bool.{true, cond}
+use mathlib.Core.List.{List}
 use Prim.Native.Nat.{ℕ, min, _+_, _≤_, _<_}
 use native.Mathlib.Omega.{arith}
-use lib.Dec.{T, eqb, ltb}
+use lib.Dec.{T, eqb}
 use lib.ListN.{length, take, drop, getD}
 use lib.Seq.{ext-getD, getD-take, getD-drop}
 use Rattle.numbers.specs.Limits.{mostSymbols, deepest, desks}
-use Rattle.numbers.proofs.Tests.{T?, is-true, is-false}
+use Rattle.numbers.proofs.Tests.{T?, is-false}
 use Rattle.numbers.proofs.Orders.{eq→eqb}
 use Rattle.contexts.specs.Context.{isContext}
 use Rattle.contexts.specs.Keys.{keyOf, deskOf}
-use Rattle.contexts.specs.Sitting.{Sample, first, second, Progress}
+use Rattle.contexts.specs.Sitting.{Sample, first, second}
 use Rattle.contexts.proofs.Strings.{context-more}
 use Rattle.contexts.proofs.KeyOrder.{Within, deskOf-key}
 use Rattle.records.specs.Records.{lookup}
-use Rattle.replay.specs.Room.{Opening, Desk, closed, opened}
-use Rattle.store.specs.Layout.{headerSize, deskStart, field, recentField, isOpen, symbolsAt, depthAt, sizeAt, slotsAt, recordsIn, countIn, keep, ofDesk}
+use Rattle.replay.specs.Room.{opened}
+use Rattle.store.specs.Layout.{headerSize, deskStart, field, recentField, symbolsAt, depthAt, sizeAt, slotsAt, recordsIn, countIn, keep, ofDesk}
 use Rattle.store.specs.Sound.{soundb}
 use Rattle.store.specs.Plain.{Open}
 use Rattle.store.specs.Meaning.{openingAt, progressAt, deskAt}

@@ -1,18 +1,18 @@
 -- A turn of each loop of the soundness test, as the code asks for it. Assumes nothing.
 use mathlib.Core.Path.{_≡_, refl, sym, ap, _∙_}
-use mathlib.Core.Bool.{Bool, true, false, _&&_, _||_, or-true, and-true}
+use mathlib.Core.Bool.{Bool, true, _&&_, _||_, and-true}
 use mathlib.Core.List.{List, [], _∷_}
-use Prim.Native.Nat.{ℕ, zero, suc, _+_, _-_, _*_, _/_, _≤_, _<_}
+use Prim.Native.Nat.{ℕ, zero, suc, _+_, _*_, _/_, _≤_, _<_}
 use native.Mathlib.Numerals.{add-one}
 use native.Mathlib.Nat.{div-mul-le-self, div-le-self, mul-le-mul-right, le-trans}
 use native.Mathlib.Omega.{arith}
-use borrow.Author.Tests.{ne-eqb, eqb-true, eqb-false, lt-ltb, le-ltb}
+use borrow.Author.Tests.{ne-eqb, lt-ltb, le-ltb}
 use lib.Dec.{eqb, ltb}
-use lib.ListN.{length, take, drop, getD, length-drop}
-use lib.Seq.{drop-cons, drop-length, getD-take, getD-drop, length-take-le}
+use lib.ListN.{length, take, drop, getD}
+use lib.Seq.{drop-cons, drop-length, getD-take, getD-drop}
 use Rattle.numbers.specs.Limits.{mostSymbols}
 use Rattle.numbers.specs.Sum.{sum}
-use Rattle.store.specs.Sound.{every, all, quietFrom}
+use Rattle.store.specs.Sound.{every, all}
 
 -- ---- sums and tests of the numbers below a bound
 

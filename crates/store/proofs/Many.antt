@@ -1,8 +1,8 @@
 -- Laws of tests of many: of the numbers below a bound, of a list's elements, of the two samples. Assumes nothing.
 use mathlib.Core.Path.{_≡_, refl, ap₂}
-use mathlib.Core.Bool.{Bool, true, false, _&&_, and-false}
+use mathlib.Core.Bool.{Bool, false, _&&_, and-false}
 use mathlib.Core.List.{List, [], _∷_}
-use Prim.Native.Nat.{ℕ, zero, suc, _≤_, _<_}
+use Prim.Native.Nat.{ℕ, zero, suc, _<_}
 use native.Mathlib.Nat.{le-refl, le-suc, le-trans, zero-lt-suc, le-of-suc-le-suc, not-suc-le-zero}
 use Prim.Native.Nat.{suc-le-suc}
 use native.Mathlib.Omega.{arith}
@@ -65,6 +65,3 @@ sample-at f t second = right (f first) (f second) t
 
 pub sample-of : (f : Sample → Bool) → ((i : Sample) → T (f i)) → T (eachSample f)
 sample-of f h = both (f first) (f second) (h first) (h second)
-
-pub sample-cong : {f g : Sample → Bool} → ((i : Sample) → f i ≡ g i) → eachSample f ≡ eachSample g
-sample-cong h = ap₂ _&&_ (h first) (h second)

@@ -2,32 +2,21 @@
 use mathlib.Core.Path.{_≡_, refl, sym, ap, _∙_}
 use mathlib.Core.Bool.{Bool, true, false, cond, _||_, or-true}
 use mathlib.Core.List.{List, [], _∷_}
-use Prim.Native.Nat.{ℕ, zero, suc, _+_, _-_, _*_, _%_, _≤_, _<_}
+use Prim.Native.Nat.{ℕ, zero, suc, _+_, _≤_, _<_}
 use native.Mathlib.Omega.{arith}
 use borrow.Author.Tests.{eq-eqb, ne-eqb, lt-ltb, ltb-true, ltb-false, eqb-true, eqb-false}
 use lib.Dec.{T, ltb, eqb}
 use lib.ListN.{length, getD, length-set}
 use lib.Seq.{getD-set-same, getD-set-other}
-use Rattle.numbers.specs.Limits.{deepest}
 use Rattle.contexts.specs.Keys.{keyOf, deskOf, contextOf}
 use Rattle.contexts.specs.Sitting.{Sample}
 use Rattle.records.specs.Records.{key, keys, rises, lookup, blank}
 use Rattle.store.specs.Layout.{totalOf}
 use Rattle.store.specs.Sound.{parentOf, parentKey, parentOk}
 use Rattle.store.specs.Walk.{lenOf, weight, upMark, marked, markOk, after, start}
-use Rattle.store.proofs.Digits.{Ends, each-length, contextOf-length, key-back}
+use Rattle.store.proofs.Digits.{ends-short, Ends, contextOf-length, key-back}
 use Rattle.store.proofs.Parents.{Above, above, apart, root-mark}
 use Rattle.store.proofs.Rising.{head-bound, from-head, lookup-head, lookup-none, zeros-at, blank-total}
-
--- a key with nothing past its length has at most six symbols
-pub ends-short : (k : ℕ) → Ends k → lenOf k ≤ deepest
-unfolding weight
-ends-short k e = go (lenOf k) (omega arith) e
-  where
-    go : (l : ℕ) → l < 8 → k % weight l ≡ l → l ≤ 6
-    go l u = each-length (λ l. k % weight l ≡ l → l ≤ 6)
-        (λ q. omega arith) (λ q. omega arith) (λ q. omega arith) (λ q. omega arith)
-        (λ q. omega arith) (λ q. omega arith) (λ q. omega arith) (λ q. absurd (omega arith)) l u
 
 -- the records from lo up are those of `rest`
 abbrev pub Rest : List (List ℕ) → ℕ → List (List ℕ) → Type 0

@@ -1,7 +1,7 @@
 -- A key and its parent's: what the pass's arithmetic finds is the key of the context less its oldest symbol. Assumes nothing.
 use mathlib.Core.Path.{_≡_, refl, sym, ap, subst, _∙_}
 use mathlib.Core.List.{List, [], _∷_, _++_}
-use Prim.Native.Nat.{ℕ, zero, suc, _+_, _-_, _*_, _/_, _%_, _^_, _≤_, _<_}
+use Prim.Native.Nat.{ℕ, suc, _+_, _-_, _*_, _/_, _%_, _^_, _≤_, _<_}
 use native.Mathlib.Omega.{arith}
 use lib.ListN.{length}
 use Rattle.numbers.specs.Limits.{mostSymbols, deepest}
@@ -10,7 +10,7 @@ use Rattle.contexts.proofs.Strings.{context-length}
 use Rattle.contexts.proofs.KeyOrder.{Within, deskOf-key, contextOf-key, key-child}
 use Rattle.store.specs.Sound.{parentOf, parentKey}
 use Rattle.store.specs.Walk.{lenOf, weight, upMark}
-use Rattle.store.proofs.Strings.{Oldest, none, some, oldest, parent-snoc, length-snoc, context-parent, oldest-below}
+use Rattle.store.proofs.Strings.{none, some, oldest, parent-snoc, length-snoc, context-parent, oldest-below}
 use Rattle.store.proofs.Digits.{each-length, Ends, contextOf-within, contextOf-length, key-back, key-ends, key-length}
 
 -- a child's key from its parent's key x: a is the oldest symbol

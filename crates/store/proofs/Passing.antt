@@ -1,24 +1,23 @@
 -- The parts of a passed test, and what it tells of a record and of a desk's context. Assumes nothing.
-use mathlib.Core.Path.{_≡_, refl, sym, ap, subst, _∙_}
-use mathlib.Core.Bool.{Bool, true, _&&_, _||_}
-use mathlib.Core.List.{List, [], _∷_}
-use Prim.Native.Nat.{ℕ, _+_, _≤_, _<_}
+use mathlib.Core.Path.{_≡_, sym, ap, subst, _∙_}
+use mathlib.Core.Bool.{true, _&&_, _||_}
+use mathlib.Core.List.{List, []}
+use Prim.Native.Nat.{ℕ, _≤_}
 use native.Mathlib.Omega.{arith}
-use lib.Dec.{T, ltb, leb, eqb, leb→le, le→leb, ltb→lt, eqb→eq}
-use lib.ListN.{length, take, drop, getD, length-take, List·getD-eq-default}
+use lib.Dec.{T, ltb, eqb, leb→le, le→leb, ltb→lt, eqb→eq}
+use lib.ListN.{length, drop, getD, length-take, List·getD-eq-default}
 use Rattle.numbers.specs.Limits.{mostSymbols, deepest, desks}
 use Rattle.numbers.specs.Sum.{sum}
 use Rattle.numbers.proofs.Tests.{both, left, right, or-rest, of-true, is-true}
 use Rattle.numbers.proofs.Orders.{less, same, more, order}
-use Rattle.contexts.specs.Context.{isContext}
 use Rattle.contexts.specs.Keys.{keyOf, deskOf, contextOf}
-use Rattle.contexts.specs.Sitting.{Sample, first, second}
+use Rattle.contexts.specs.Sitting.{Sample}
 use Rattle.contexts.proofs.Strings.{context-more}
 use Rattle.contexts.proofs.KeyOrder.{Within, deskOf-key, contextOf-key}
-use Rattle.records.specs.Records.{key, keys, countsOf, startOf, rises, lookup, blank}
-use Rattle.store.specs.Layout.{room, isOpen, symbolsAt, depthAt, sizeAt, recordsIn, countIn, eightSum, totalOf}
+use Rattle.records.specs.Records.{key, keys, countsOf, startOf, rises, blank}
+use Rattle.store.specs.Layout.{room, symbolsAt, depthAt, sizeAt, recordsIn, eightSum}
 use Rattle.store.specs.Sound.{every, all, eachSample, frameOk, deskOk, heldBy, reservedAt, keyOk, quietFrom, countsOk, sampleOk, tableOk, parentOk, recordOk, recordsOk, soundb}
-use Rattle.store.specs.Plain.{Open, ContextAt, recordFor, totalAt}
+use Rattle.store.specs.Plain.{Open, ContextAt, recordFor}
 use Rattle.store.proofs.Many.{every-at, all-at, sample-at}
 use Rattle.store.proofs.Desks.{DeskStands, desk-stands}
 use Rattle.store.proofs.Rising.{Found, nothing, there, found, blank-count, blank-total}

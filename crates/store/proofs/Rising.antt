@@ -1,12 +1,11 @@
 -- Laws of records that stand in the order of their keys, and of what stands under a key. Assumes nothing.
-use mathlib.Core.Path.{_≡_, refl, sym, ap, _∙_}
-use mathlib.Core.Logic.{_⊎_, inl, inr}
-use mathlib.Core.Bool.{Bool, true, false, cond}
+use mathlib.Core.Path.{_≡_, refl, _∙_}
+use mathlib.Core.Bool.{Bool, true, false}
 use mathlib.Core.List.{List, [], _∷_}
-use Prim.Native.Nat.{ℕ, zero, suc, _+_, _≤_, _<_}
+use Prim.Native.Nat.{ℕ, zero, suc, _≤_, _<_}
 use native.Mathlib.Nat.{not-suc-le-zero, le-of-suc-le-suc, le-refl}
 use native.Mathlib.Omega.{arith}
-use borrow.Author.Tests.{eq-eqb, ne-eqb, eqb-true, eqb-false}
+use borrow.Author.Tests.{eq-eqb, ne-eqb, eqb-true}
 use lib.Dec.{T, leb, eqb, leb→le, le→leb}
 use lib.ListN.{length, getD, replicate}
 use Rattle.numbers.specs.Sum.{sum}
@@ -14,7 +13,6 @@ use Rattle.numbers.proofs.Tests.{both, left, right}
 use Rattle.contexts.specs.Sitting.{Sample, first, second}
 use Rattle.records.specs.Records.{key, keys, rises, lookup, blank}
 use Rattle.store.specs.Layout.{countIn, totalOf}
-use Rattle.store.specs.Sound.{all}
 
 -- ---- the first record, and the others
 

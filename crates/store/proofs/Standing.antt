@@ -1,32 +1,29 @@
 -- A store passes the test exactly where it is sound in document 01's words. Assumes nothing.
-use mathlib.Core.Path.{_≡_, refl, sym, ap, subst, _∙_}
-use mathlib.Core.Logic.{_⊎_, inl, inr}
-use mathlib.Core.Bool.{Bool, true, false, _||_}
+use mathlib.Core.Path.{_≡_, sym, ap, subst, _∙_}
+use mathlib.Core.Logic.{inl, inr}
+use mathlib.Core.Bool.{true}
 use mathlib.Core.List.{List, [], _∷_, _++_}
-use Prim.Native.Nat.{ℕ, zero, suc, _+_, _-_, _≤_, _<_}
+use Prim.Native.Nat.{ℕ, zero, suc, _+_, _≤_, _<_}
 use native.Mathlib.Omega.{arith}
-use lib.Dec.{T, ltb, leb, eqb, lt→ltb, le→leb, ltb→lt}
-use lib.ListN.{length, take, drop, getD, length-drop}
+use lib.Dec.{T, ltb→lt}
+use lib.ListN.{length, drop, getD, length-drop}
 use lib.Seq.{length-take-le}
-use Rattle.numbers.specs.Limits.{mostSymbols, deepest, desks}
-use Rattle.numbers.proofs.Tests.{T?, both, or-left, or-right, of-true, is-true}
-use Rattle.numbers.proofs.Orders.{less, same, more, order, eq→eqb}
-use Rattle.contexts.specs.Context.{isContext, begins}
+use Rattle.numbers.specs.Limits.{deepest, desks}
+use Rattle.numbers.proofs.Orders.{less, same, more, order}
+use Rattle.contexts.specs.Context.{begins}
 use Rattle.contexts.specs.Keys.{keyOf, deskOf, contextOf}
 use Rattle.contexts.specs.Sitting.{Sample, first, second}
-use Rattle.contexts.proofs.Strings.{begins-take, context-more}
-use Rattle.contexts.proofs.KeyOrder.{Within, deskOf-key, contextOf-key}
-use Rattle.records.specs.Records.{key, keys, countsOf, lookup}
-use Rattle.store.specs.Layout.{headerSize, deskStart, recentField, storeSize, room, used, isOpen, symbolsAt, depthAt, sizeAt, slotsAt, recordsIn, countIn, eightSum, totalOf}
-use Rattle.store.specs.Sound.{every, all, below, eachSample, deskOk, heldBy, keyOk, quietFrom, countsOk, sampleOk, tableOk, parentOf, parentKey, parentOk, recordOk, soundb}
+use Rattle.records.specs.Records.{key, lookup}
+use Rattle.store.specs.Layout.{headerSize, deskStart, used, symbolsAt, depthAt, slotsAt, recordsIn, totalOf}
+use Rattle.store.specs.Sound.{below, heldBy, parentOf, parentKey, recordOk, soundb}
 use Rattle.store.specs.Plain.{Open, ContextAt, recordFor, totalAt, Counts, recordAt, Sound}
-use Rattle.store.proofs.Many.{every-of, all-at, all-of, sample-of}
-use Rattle.store.proofs.Strings.{Oldest, none, some, oldest, parent-snoc, length-snoc, context-parent, begins-cut}
+use Rattle.store.proofs.Many.{all-at}
+use Rattle.store.proofs.Strings.{none, some, oldest, parent-snoc, length-snoc, context-parent, begins-cut}
 use Rattle.store.proofs.Parts.{records-length}
-use Rattle.store.proofs.Rising.{rises-apart, apart-rises, lookup-at, blank-total}
-use Rattle.store.proofs.Desks.{DeskStands, desk-shut, stands-desk}
-use Rattle.store.proofs.Climbing.{KeyStands, key-stands, table-seen, parent-seen}
-use Rattle.store.proofs.Passing.{Passed, passed, passes, record-key, record-table, record-parents, desk-passed, context-within, context-counts, At, absent, present, at}
+use Rattle.store.proofs.Rising.{rises-apart, blank-total}
+use Rattle.store.proofs.Desks.{DeskStands}
+use Rattle.store.proofs.Climbing.{key-stands, table-seen, parent-seen}
+use Rattle.store.proofs.Passing.{Passed, passed, record-key, record-table, record-parents, desk-passed, context-counts, absent, present, at}
 
 -- ---- the sample that has seen a context has seen what begins it
 

@@ -1,20 +1,19 @@
 -- How many contexts a list of records holds: the sum over all strings of those that have a record. Assumes nothing.
-use mathlib.Core.Path.{_≡_, refl, sym, ap, ap₂, _∙_, subst}
+use mathlib.Core.Path.{_≡_, refl, ap, ap₂, _∙_}
 use mathlib.Core.Bool.{Bool, true, false, _&&_, _||_}
 use mathlib.Core.List.{List, [], _∷_}
 use Prim.Native.Nat.{ℕ, zero, suc, _+_, _≤_, _<_}
 use native.Mathlib.Omega.{arith}
-use borrow.Author.Tests.{eq-eqb, eqb-true}
+use borrow.Author.Tests.{eq-eqb}
 use lib.Dec.{T, eqb, eqb→eq}
 use lib.ListN.{length, getD}
 use Rattle.numbers.specs.Limits.{mostSymbols, deepest}
 use Rattle.numbers.specs.Sum.{one, sum}
-use Rattle.numbers.proofs.Tests.{of-true}
 use Rattle.numbers.proofs.Orders.{eqb-sym}
 use Rattle.numbers.proofs.Sums.{sum-cong, sum-zero, sum-pick}
 use Rattle.contexts.specs.Context.{isContext, eqs}
 use Rattle.contexts.specs.Keys.{keyOf}
-use Rattle.contexts.specs.Strings.{under, total}
+use Rattle.contexts.specs.Strings.{total}
 use Rattle.contexts.proofs.Strings.{newest-below, older-context, context-cons, context-more}
 use Rattle.contexts.proofs.Totalling.{total-add, total-none, total-only}
 use Rattle.contexts.proofs.KeyOrder.{Within, eqb-key}

@@ -1,12 +1,12 @@
 -- A turn of the pass: what holds before each record, and what the records' and the desks' tests are at its end. Assumes nothing.
-use mathlib.Core.Path.{_≡_, refl, sym, ap, _∙_, subst}
+use mathlib.Core.Path.{_≡_, refl, sym, ap, _∙_}
 use mathlib.Core.Bool.{Bool, true, false, cond}
 use mathlib.Core.List.{List, [], _∷_}
-use Prim.Native.Nat.{ℕ, zero, suc, _+_, _-_, _*_, _≤_, _<_}
+use Prim.Native.Nat.{ℕ, _+_, _*_, _≤_, _<_}
 use native.Mathlib.Omega.{arith}
 use borrow.Author.Tests.{eq-eqb, ne-eqb, eqb-true, eqb-false}
-use lib.Dec.{T, eqb}
-use lib.ListN.{length, take, drop, getD, set, replicate, length-set}
+use lib.Dec.{eqb}
+use lib.ListN.{length, drop, getD, set, replicate, length-set}
 use lib.Seq.{getD-set-same, getD-set-other}
 use Rattle.numbers.specs.Limits.{desks, mostRoom}
 use Rattle.numbers.proofs.Tests.{of-true}
@@ -14,7 +14,7 @@ use Rattle.contexts.specs.Keys.{deskOf}
 use Rattle.contexts.specs.Sitting.{first, second}
 use Rattle.records.specs.Records.{width, records, key}
 use Rattle.store.specs.Layout.{headerSize, totalOf, keep, ofDesk}
-use Rattle.store.specs.Sound.{every, heldBy, deskTest, deskOk}
+use Rattle.store.specs.Sound.{every, heldBy, deskTest}
 use Rattle.store.specs.Walk.{lenOf, walk, stepOk, after, marked, start, tallyOk, passb}
 use Rattle.store.proofs.Many.{every-cong}
 use Rattle.store.proofs.Parts.{parts-length}

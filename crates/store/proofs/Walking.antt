@@ -1,21 +1,21 @@
 -- The walk over the records is their order and each record's test with its parent looked up. Assumes nothing.
-use mathlib.Core.Path.{_≡_, refl, sym, ap₂, _∙_}
+use mathlib.Core.Path.{_≡_, refl, sym, _∙_}
 use mathlib.Core.Bool.{Bool, true, false, _&&_}
 use mathlib.Core.List.{List, [], _∷_}
 use Prim.Native.Nat.{ℕ, suc, _+_, _≤_, _<_}
 use native.Mathlib.Omega.{arith}
 use native.Mathlib.Numerals.{add-one}
 use borrow.Author.Tests.{le-leb}
-use lib.Dec.{T, leb, ltb, eqb, leb→le, ltb→lt, eqb→eq}
+use lib.Dec.{T, leb, ltb, leb→le, ltb→lt, eqb→eq}
 use lib.ListN.{getD}
 use Rattle.numbers.specs.Limits.{desks}
 use Rattle.numbers.proofs.Tests.{both, left, right, of-true, is-true}
 use Rattle.contexts.specs.Keys.{deskOf}
 use Rattle.contexts.specs.Sitting.{first, second}
-use Rattle.records.specs.Records.{key, keys, rises, lookup}
-use Rattle.store.specs.Layout.{isOpen, symbolsAt, depthAt, totalOf}
+use Rattle.records.specs.Records.{key, keys, rises}
+use Rattle.store.specs.Layout.{isOpen, symbolsAt, depthAt}
 use Rattle.store.specs.Sound.{all, eachSample, parentOk, tableOk}
-use Rattle.store.specs.Walk.{lenOf, weight, oldestOk, endsOk, upMark, keyFits, ownOk, markOk, stepOk, after, walk, start}
+use Rattle.store.specs.Walk.{lenOf, oldestOk, endsOk, keyFits, ownOk, stepOk, after, walk, start}
 use Rattle.store.proofs.Digits.{Ends}
 use Rattle.store.proofs.Rising.{head-bound, tail-rises, lookup-tail}
 use Rattle.store.proofs.Marks.{Rest, Kept, kept-start, kept-next, mark-parent}

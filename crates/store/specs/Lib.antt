@@ -3,3 +3,4 @@ pub mod Sound
 pub mod Walk
 pub mod Plain
 pub mod Meaning
+pub mod Making

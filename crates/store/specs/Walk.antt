@@ -5,7 +5,7 @@ use mathlib.Core.List.{List, [], _∷_}
 use Prim.Native.Nat.{ℕ, _+_, _-_, _*_, _/_, _%_, _^_, _≤_}
 use lib.ListN.{length, getD, set, replicate}
 use lib.Dec.{leb, ltb, eqb}
-use Rattle.numbers.specs.Limits.{mostSymbols, deepest, desks}
+use Rattle.numbers.specs.Limits.{desks}
 use Rattle.contexts.specs.Keys.{deskOf, deskSpan}
 use Rattle.contexts.specs.Sitting.{Sample, first, second}
 use Rattle.records.specs.Records.{width, key}
@@ -46,10 +46,11 @@ keyFits s k =
 unfoldable pub ownOk : List ℕ → List ℕ → Bool
 ownOk s r = keyFits s (key r) && tableOk s r
 
--- a record with what its samples have counted of it, as the pass hands it on; the sums of eight numbers of 32 bits
+-- the largest sum of eight numbers of 32 bits
 abbrev pub largestSum : ℕ
 largestSum = 34359738360
 
+-- a record with N(s) in each sample, x and y, as the pass hands them on
 pub record Summed (r : List ℕ) (x y : ℕ) : Type 0 where
   pub long : width ≤ length r
   pub in-first : x ≡ totalOf first r

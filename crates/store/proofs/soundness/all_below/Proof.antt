@@ -1,3 +1,4 @@
+-- `store::soundness::all_below` meets its contract: what is left of the part decides. Assumes nothing.
 use mathlib.Core.Path.{_≡_, refl, sym, _∙_}
 use Prim.Native.Nat.{_≤_, _-_}
 use native.Mathlib.Omega.{arith}
@@ -7,8 +8,6 @@ use Rattle.store.specs.Sound.{all, below}
 use Rattle.store.proofs.Loops.{all-step, all-end}
 use Rattle.store.proofs.soundness.all_below.Statement.{statement}
 use Rattle.store.proofs.soundness.all_below.Tie as tie
-use Rattle.store.proofs.soundness.all_below.Reads as reads
-use Rattle.store.proofs.soundness.all_below.Lts as lts
 
 abbrev Inv-loop : tie.InvT-loop
 Inv-loop part a i₀ i = (i ≤ length part) × (all (below a) (drop i part) ≡ all (below a) part)

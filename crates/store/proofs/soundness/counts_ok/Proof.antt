@@ -1,15 +1,12 @@
-use mathlib.Core.Path.{_≡_, sym, _∙_}
+-- `store::soundness::counts_ok` meets its contract. Assumes nothing.
 use mathlib.Core.Bool.{true, false}
-use native.Mathlib.Omega.{arith}
+use mathlib.Core.Path.{_≡_, sym, _∙_}
+use borrow.Author.Needs.{needs}
 use Rattle.store.specs.Layout.{eightSum}
 use Rattle.store.specs.Sound.{quietFrom, countsOk}
 use Rattle.store.proofs.Loops.{eightFrom}
-use borrow.Author.Needs.{needs}
 use Rattle.store.proofs.soundness.counts_ok.Statement.{statement}
 use Rattle.store.proofs.soundness.counts_ok.Tie as tie
-use Rattle.store.proofs.soundness.counts_ok.Reads as reads
-use Rattle.store.proofs.soundness.counts_ok.Lts as lts
-use Rattle.store.proofs.soundness.quiet.Reads as quiet-reads
 
 quiet-requires : tie.Need-quiet-requires
 quiet-requires c κs = search needs

@@ -1,21 +1,17 @@
-use mathlib.Core.Path.{_≡_, sym, _∙_}
+-- `store::soundness::desk_ok` meets its contract: the ways of an open desk, and a desk that is not open. Assumes nothing.
 use mathlib.Core.Bool.{true, false}
+use mathlib.Core.Path.{_≡_, sym, _∙_}
 use Prim.Native.Nat.{_≤_, _<_}
 use native.Mathlib.Omega.{arith}
+use borrow.Author.Needs.{needs}
 use borrow.Author.Tests.{le-leb, lt-leb}
-use lib.Dec.{T, eqb→eq}
+use lib.Dec.{eqb→eq}
 use Rattle.numbers.proofs.Orders.{eq→eqb}
-use Rattle.store.specs.Layout.{field, isOpen, reserveAt}
+use Rattle.store.specs.Layout.{field, reserveAt}
 use Rattle.store.specs.Sound.{limitsOk}
 use Rattle.store.proofs.Desks.{desk-open, desk-shut}
-use borrow.Author.Needs.{needs}
 use Rattle.store.proofs.soundness.desk_ok.Statement.{statement}
 use Rattle.store.proofs.soundness.desk_ok.Tie as tie
-use Rattle.store.proofs.soundness.desk_ok.Reads as reads
-use Rattle.store.proofs.soundness.desk_ok.Lts as lts
-use Rattle.store.proofs.layout.field_at.Reads as field-at-reads
-use Rattle.store.proofs.soundness.limits_ok.Reads as limits-ok-reads
-use Rattle.store.proofs.soundness.slots_ok.Reads as slots-ok-reads
 
 field-at-requires : tie.Need-field-at-requires
 field-at-requires c κs = search needs

@@ -1,20 +1,18 @@
+-- `store::soundness::desks_ok` meets its contract: the desks before have passed. Assumes nothing.
+use mathlib.Core.Bool.{true}
 use mathlib.Core.Path.{_≡_, sym, _∙_}
-use mathlib.Core.Bool.{true, false}
 use Prim.Native.Nat.{_-_, _≤_}
 use native.Mathlib.Omega.{arith}
+use borrow.Author.Needs.{needs}
 use lib.ListN.{length}
 use Rattle.numbers.specs.Limits.{desks}
 use Rattle.store.specs.Layout.{headerSize}
 use Rattle.store.specs.Sound.{every}
 use Rattle.store.specs.Walk.{tallyOk}
-use Rattle.store.proofs.Many.{every-fails}
 use Rattle.store.proofs.Loops.{every-none, every-more}
-use borrow.Author.Needs.{needs}
+use Rattle.store.proofs.Many.{every-fails}
 use Rattle.store.proofs.soundness.desks_ok.Statement.{statement}
 use Rattle.store.proofs.soundness.desks_ok.Tie as tie
-use Rattle.store.proofs.soundness.desks_ok.Reads as reads
-use Rattle.store.proofs.soundness.desks_ok.Lts as lts
-use Rattle.store.proofs.soundness.desk_ok.Reads as desk-ok-reads
 
 abbrev Inv-loop : tie.InvT-loop
 Inv-loop store tally desk₀ desk = (desk ≤ desks) × (headerSize ≤ length store) × (length tally ≡ 8) × (every desk (tallyOk store tally) ≡ true)

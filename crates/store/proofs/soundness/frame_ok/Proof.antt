@@ -1,18 +1,17 @@
-use mathlib.Core.Path.{_≡_, refl}
+-- `store::soundness::frame_ok` meets its contract: each way by the first test that fails. Assumes nothing.
 use mathlib.Core.Bool.{Bool, true, false, _&&_}
-use lib.Dec.{leb}
+use mathlib.Core.Path.{_≡_, refl}
 use Prim.Native.Nat.{_≤_, _<_}
 use native.Mathlib.Omega.{arith}
+use borrow.Author.Needs.{needs}
 use borrow.Author.Tests.{le-leb, lt-leb}
+use lib.Dec.{leb}
 use lib.ListN.{length}
 use Rattle.numbers.specs.Limits.{mostRoom}
 use Rattle.store.specs.Layout.{storeSize, room}
 use Rattle.store.specs.Sound.{frameOk}
-use borrow.Author.Needs.{needs}
 use Rattle.store.proofs.soundness.frame_ok.Statement.{statement}
 use Rattle.store.proofs.soundness.frame_ok.Tie as tie
-use Rattle.store.proofs.soundness.frame_ok.Reads as reads
-use Rattle.store.proofs.soundness.frame_ok.Lts as lts
 
 none : (a b : Bool) → false ≡ (a && (b && false))
 none true true = refl

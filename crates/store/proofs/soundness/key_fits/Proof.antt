@@ -1,20 +1,16 @@
-use mathlib.Core.Path.{_≡_, sym, ap, _∙_}
+-- `store::soundness::key_fits` meets its contract: each way by the first test that fails. Assumes nothing.
 use mathlib.Core.Bool.{true, false}
+use mathlib.Core.Path.{_≡_, sym, ap, _∙_}
 use Prim.Native.Nat.{ℕ, _≤_, _<_}
 use native.Mathlib.Omega.{arith}
+use borrow.Author.Needs.{needs}
 use borrow.Author.Tests.{lt-ltb, le-ltb, le-leb, lt-leb, eq-eqb, ne-eqb}
 use Rattle.numbers.specs.Limits.{desks}
 use Rattle.contexts.specs.Keys.{deskOf}
 use Rattle.store.specs.Layout.{field, symbolsAt, depthAt}
 use Rattle.store.specs.Walk.{keyFits, oldestOk, lenOf}
-use borrow.Author.Needs.{needs}
 use Rattle.store.proofs.soundness.key_fits.Statement.{statement}
 use Rattle.store.proofs.soundness.key_fits.Tie as tie
-use Rattle.store.proofs.soundness.key_fits.Reads as reads
-use Rattle.store.proofs.soundness.key_fits.Lts as lts
-use Rattle.store.proofs.layout.field_at.Reads as field-at-reads
-use Rattle.store.proofs.soundness.ends_ok.Reads as ends-ok-reads
-use Rattle.store.proofs.soundness.oldest_ok.Reads as oldest-ok-reads
 
 cast-desk : tie.Need-cast-desk
 cast-desk c = search needs

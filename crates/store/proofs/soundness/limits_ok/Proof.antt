@@ -1,18 +1,16 @@
+-- `store::soundness::limits_ok` meets its contract: each way by the first limit that is passed. Assumes nothing.
 use mathlib.Core.Path.{ap}
 use Prim.Native.Nat.{ℕ, _≤_, _<_}
-use lib.Dec.{leb}
 use native.Mathlib.Omega.{arith}
+use borrow.Author.Needs.{needs}
 use borrow.Author.Tests.{le-leb, lt-leb}
+use lib.Dec.{leb}
 use Rattle.numbers.specs.Limits.{fewestSymbols, mostSymbols, deepest, longest}
 use Rattle.contexts.specs.Sitting.{first}
 use Rattle.store.specs.Layout.{symbolsAt, depthAt, reserveAt, sizeAt}
 use Rattle.store.specs.Sound.{limitsOk}
-use borrow.Author.Needs.{needs}
 use Rattle.store.proofs.soundness.limits_ok.Statement.{statement}
 use Rattle.store.proofs.soundness.limits_ok.Tie as tie
-use Rattle.store.proofs.soundness.limits_ok.Reads as reads
-use Rattle.store.proofs.soundness.limits_ok.Lts as lts
-use Rattle.store.proofs.layout.field_at.Reads as field-at-reads
 
 field-at-requires : tie.Need-field-at-requires
 field-at-requires c κs = search needs

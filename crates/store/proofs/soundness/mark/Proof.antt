@@ -1,10 +1,9 @@
+-- `store::soundness::mark` meets its contract. Assumes nothing.
+use borrow.Author.Needs.{needs}
 use borrow.Author.Tests.{lt-ltb, le-ltb}
 use Rattle.store.specs.Walk.{marked}
-use borrow.Author.Needs.{needs}
 use Rattle.store.proofs.soundness.mark.Statement.{statement}
 use Rattle.store.proofs.soundness.mark.Tie as tie
-use Rattle.store.proofs.soundness.mark.Reads as reads
-use Rattle.store.proofs.soundness.mark.Lts as lts
 
 add-result : tie.Need-add-result
 add-result c = search needs

@@ -1,9 +1,8 @@
+-- `store::soundness::mark_ok` meets its contract. Assumes nothing.
 use borrow.Author.Tests.{eq-eqb, ne-eqb}
 use Rattle.store.specs.Walk.{markOk}
 use Rattle.store.proofs.soundness.mark_ok.Statement.{statement}
 use Rattle.store.proofs.soundness.mark_ok.Tie as tie
-use Rattle.store.proofs.soundness.mark_ok.Reads as reads
-use Rattle.store.proofs.soundness.mark_ok.Lts as lts
 
 returns : tie.Need-returns
 unfolding markOk

@@ -1,14 +1,12 @@
+-- `store::soundness::oldest_ok` meets its contract. Assumes nothing.
 use mathlib.Core.Path.{ap}
 use Prim.Native.Nat.{ℕ, _/_, _%_}
+use borrow.Author.Needs.{needs}
 use lib.Dec.{ltb}
 use Rattle.contexts.specs.Keys.{deskSpan}
 use Rattle.store.specs.Walk.{oldestOk}
-use borrow.Author.Needs.{needs}
 use Rattle.store.proofs.soundness.oldest_ok.Statement.{statement}
 use Rattle.store.proofs.soundness.oldest_ok.Tie as tie
-use Rattle.store.proofs.soundness.oldest_ok.Reads as reads
-use Rattle.store.proofs.soundness.oldest_ok.Lts as lts
-use Rattle.store.proofs.soundness.weight_of.Reads as weight-of-reads
 
 cast-weight-of : tie.Need-cast-weight-of
 cast-weight-of c = search needs

@@ -1,22 +1,17 @@
+-- `store::soundness::pass` meets its contract. The invariant is `Turn`: the records before have passed, with their marks and tally. Assumes nothing.
 use mathlib.Core.Path.{sym, ap, _∙_}
 use Prim.Native.Nat.{_-_, _<_}
 use native.Mathlib.Omega.{arith}
-use Rattle.numbers.specs.Limits.{desks}
 use Rattle.numbers.proofs.Tests.{of-true}
+use Rattle.numbers.specs.Limits.{desks}
 use Rattle.contexts.specs.Keys.{deskOf}
 use Rattle.records.specs.Records.{key}
 use Rattle.store.specs.Walk.{marked}
 use Rattle.store.proofs.Parts.{lent, record-lent, record-long}
-use Rattle.store.proofs.Walking.{step-desk}
 use Rattle.store.proofs.Turn.{Turn, turn-start, turn-next, turn-bad, turn-end}
+use Rattle.store.proofs.Walking.{step-desk}
 use Rattle.store.proofs.soundness.pass.Statement.{statement}
 use Rattle.store.proofs.soundness.pass.Tie as tie
-use Rattle.store.proofs.soundness.pass.Reads as reads
-use Rattle.store.proofs.soundness.pass.Lts as lts
-use Rattle.store.proofs.soundness.desks_ok.Reads as desks-ok-reads
-use Rattle.store.proofs.soundness.mark.Reads as mark-reads
-use Rattle.store.proofs.soundness.record_ok.Reads as record-ok-reads
-use Rattle.store.proofs.soundness.total.Reads as total-reads
 
 abbrev Inv-loop : tie.InvT-loop
 Inv-loop store body many p₀ q₀ tally₀ lo₀ i₀ p q tally lo i = Turn store body many p q tally lo i

@@ -1,5 +1,6 @@
-use mathlib.Core.Path.{_≡_, sym, subst, _∙_}
+-- `store::soundness::quiet` meets its contract: the sum so far is 0 exactly where the counts so far from symbol `a` up are. Assumes nothing.
 use mathlib.Core.Logic.{⊎-elim}
+use mathlib.Core.Path.{_≡_, sym, subst}
 use Prim.Native.Nat.{ℕ, _+_, _-_}
 use native.Mathlib.Omega.{arith}
 use Rattle.numbers.specs.Limits.{mostSymbols}
@@ -7,8 +8,6 @@ use Rattle.store.specs.Sound.{quietFrom}
 use Rattle.store.proofs.Loops.{Quiet, quiet-start, quiet-add, quiet-skip}
 use Rattle.store.proofs.soundness.quiet.Statement.{statement}
 use Rattle.store.proofs.soundness.quiet.Tie as tie
-use Rattle.store.proofs.soundness.quiet.Reads as reads
-use Rattle.store.proofs.soundness.quiet.Lts as lts
 
 abbrev Inv-loop : tie.InvT-loop
 Inv-loop held from a seen₀ i₀ seen i = Quiet held from a seen i

@@ -1,6 +1,8 @@
-use mathlib.Core.Path.{_≡_, sym, _∙_}
+-- `store::soundness::record_ok` meets its contract: each way by the first test that fails. Assumes nothing.
 use mathlib.Core.Bool.{true, false}
+use mathlib.Core.Path.{_≡_, sym, _∙_}
 use native.Mathlib.Omega.{arith}
+use borrow.Author.Needs.{needs}
 use borrow.Author.Tests.{le-leb, lt-leb}
 use lib.Dec.{leb}
 use Rattle.numbers.proofs.Tests.{of-true}
@@ -8,15 +10,8 @@ use Rattle.records.specs.Records.{key}
 use Rattle.store.specs.Sound.{tableOk}
 use Rattle.store.specs.Walk.{keyFits, ownOk, stepOk}
 use Rattle.store.proofs.Walking.{KeyFitting, key-fitting}
-use borrow.Author.Needs.{needs}
 use Rattle.store.proofs.soundness.record_ok.Statement.{statement}
 use Rattle.store.proofs.soundness.record_ok.Tie as tie
-use Rattle.store.proofs.soundness.record_ok.Reads as reads
-use Rattle.store.proofs.soundness.record_ok.Lts as lts
-use Rattle.store.proofs.soundness.key_fits.Reads as key-fits-reads
-use Rattle.store.proofs.soundness.mark_ok.Reads as mark-ok-reads
-use Rattle.store.proofs.soundness.table_ok.Reads as table-ok-reads
-use Rattle.store.proofs.soundness.up_mark.Reads as up-mark-reads
 
 -- what a key that fits tells
 good : (c : tie.Then2) → KeyFitting (c .before .before .before .before .before .before .args .store .now) (key (c .before .before .before .before .before .before .args .held .now))

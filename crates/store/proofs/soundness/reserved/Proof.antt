@@ -1,3 +1,4 @@
+-- `store::soundness::reserved` meets its contract: the sum over the desks so far. Assumes nothing.
 use mathlib.Core.Path.{_≡_, sym}
 use Prim.Native.Nat.{_≤_, _*_, _-_}
 use native.Mathlib.Omega.{arith}
@@ -9,9 +10,6 @@ use Rattle.store.specs.Sound.{reservedAt}
 use Rattle.store.proofs.Loops.{sum-more, sum-none}
 use Rattle.store.proofs.soundness.reserved.Statement.{statement}
 use Rattle.store.proofs.soundness.reserved.Tie as tie
-use Rattle.store.proofs.soundness.reserved.Reads as reads
-use Rattle.store.proofs.soundness.reserved.Lts as lts
-use Rattle.store.proofs.soundness.reserved_at.Reads as reserved-at-reads
 
 abbrev Inv-loop : tie.InvT-loop
 Inv-loop store sum₀ desk₀ sum desk = (desk ≤ desks) × (headerSize ≤ length store) × (sum ≤ 4294967296 * desk) × (sum ≡ Rattle.numbers.specs.Sum.sum desk (reservedAt store))

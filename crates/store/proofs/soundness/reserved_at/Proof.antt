@@ -1,13 +1,11 @@
+-- `store::soundness::reserved_at` meets its contract. Assumes nothing.
 use mathlib.Core.Path.{_≡_}
 use native.Mathlib.Omega.{arith}
+use borrow.Author.Needs.{needs}
 use borrow.Author.Tests.{eq-eqb, ne-eqb}
 use Rattle.store.specs.Layout.{field}
-use borrow.Author.Needs.{needs}
 use Rattle.store.proofs.soundness.reserved_at.Statement.{statement}
 use Rattle.store.proofs.soundness.reserved_at.Tie as tie
-use Rattle.store.proofs.soundness.reserved_at.Reads as reads
-use Rattle.store.proofs.soundness.reserved_at.Lts as lts
-use Rattle.store.proofs.layout.field_at.Reads as field-at-reads
 
 field-at-requires : tie.Need-field-at-requires
 field-at-requires c κs = search needs

@@ -1,18 +1,14 @@
-use mathlib.Core.Path.{_≡_, sym, _∙_}
+-- `store::soundness::slots_ok` meets its contract: the six places of each sample. Assumes nothing.
 use mathlib.Core.Bool.{true, false}
+use mathlib.Core.Path.{_≡_, sym, _∙_}
 use Prim.Native.Nat.{_+_}
-use lib.ListN.{take, drop}
-use Rattle.contexts.specs.Sitting.{first, second}
+use borrow.Author.Needs.{needs}
+use Rattle.contexts.specs.Sitting.{first}
 use Rattle.store.specs.Layout.{deskStart, symbolsAt, slotsAt}
 use Rattle.store.specs.Sound.{all, below}
 use Rattle.store.proofs.Desks.{slots-lent}
-use borrow.Author.Needs.{needs}
 use Rattle.store.proofs.soundness.slots_ok.Statement.{statement}
 use Rattle.store.proofs.soundness.slots_ok.Tie as tie
-use Rattle.store.proofs.soundness.slots_ok.Reads as reads
-use Rattle.store.proofs.soundness.slots_ok.Lts as lts
-use Rattle.store.proofs.layout.field_at.Reads as field-at-reads
-use Rattle.store.proofs.soundness.all_below.Reads as all-below-reads
 
 field-at-requires : tie.Need-field-at-requires
 field-at-requires c κs = search needs

@@ -1,12 +1,11 @@
+-- `store::soundness::total` meets its contract: the sum of the counts so far. Assumes nothing.
 use mathlib.Core.Path.{_≡_}
-use Prim.Native.Nat.{_+_, _-_, _≤_}
+use Prim.Native.Nat.{_+_, _-_}
 use native.Mathlib.Omega.{arith}
 use Rattle.numbers.specs.Limits.{mostSymbols}
 use Rattle.store.proofs.Loops.{Summing, summing-start, summing-more}
 use Rattle.store.proofs.soundness.total.Statement.{statement}
 use Rattle.store.proofs.soundness.total.Tie as tie
-use Rattle.store.proofs.soundness.total.Reads as reads
-use Rattle.store.proofs.soundness.total.Lts as lts
 
 abbrev Inv-loop : tie.InvT-loop
 Inv-loop held from seen₀ i₀ seen i = Summing held from seen i

@@ -1,14 +1,12 @@
+-- `store::soundness::up_mark` meets its contract: a key rounded down is at most the key, so nothing wraps. Assumes nothing.
 use mathlib.Core.Path.{ap}
 use Prim.Native.Nat.{ℕ, _+_, _*_, _/_, _%_}
 use native.Mathlib.Omega.{arith}
+use borrow.Author.Needs.{needs}
 use Rattle.store.specs.Walk.{upMark}
 use Rattle.store.proofs.Loops.{round-le, round-le′}
-use borrow.Author.Needs.{needs}
 use Rattle.store.proofs.soundness.up_mark.Statement.{statement}
 use Rattle.store.proofs.soundness.up_mark.Tie as tie
-use Rattle.store.proofs.soundness.up_mark.Reads as reads
-use Rattle.store.proofs.soundness.up_mark.Lts as lts
-use Rattle.store.proofs.soundness.weight_of.Reads as weight-of-reads
 
 cast-weight-of : tie.Need-cast-weight-of
 cast-weight-of c = search needs

@@ -1,13 +1,12 @@
+-- `store::soundness::weight_of` meets its contract: the shift at each of the eight lengths. Assumes nothing.
 use mathlib.Core.Path.{_≡_, refl}
-use Prim.Native.Nat.{ℕ, zero, suc, _-_, _*_, _%_, _^_, _<_}
+use Prim.Native.Nat.{ℕ, _-_, _*_, _%_, _^_, _<_}
 use native.Mathlib.Omega.{arith}
+use borrow.Author.Needs.{needs}
 use Rattle.store.specs.Walk.{weight}
 use Rattle.store.proofs.Digits.{each-length}
-use borrow.Author.Needs.{needs}
 use Rattle.store.proofs.soundness.weight_of.Statement.{statement}
 use Rattle.store.proofs.soundness.weight_of.Tie as tie
-use Rattle.store.proofs.soundness.weight_of.Reads as reads
-use Rattle.store.proofs.soundness.weight_of.Lts as lts
 
 -- the shift's value
 weight-at : (n : ℕ) → n < 8 → (1 * 2 ^ (21 - 3 * n) % 4294967296 ≡ weight n) × (0 < 1 * 2 ^ (21 - 3 * n) % 4294967296)
