@@ -35,15 +35,15 @@ use Rattle.weighing.proofs.Steps.{pow-le}
 use Rattle.weighing.proofs.Marks.{marked-on, apart-on}
 
 -- before the child at a of the context s, which stands at place p; d symbols are left below the children
-pub record Turn (k : Desk) (n : ℕ) (l : List ℕ) (s : List ℕ) (d p step a child : ℕ) (old cur : List ℕ) (kids : Weighed) : Type 0 where
+pub record Turn (k : Desk) (n : ℕ) (l : List ℕ) (s : List ℕ) (d p step a child : ℕ) (old cur : List ℕ) (children : Weighed) : Type 0 where
   pub few : a ≤ k .symbols
   pub child-is : child ≡ keyOf (k .number) s + a * step + 1
-  pub least : (t : Kind) → at (kids .least) t ≡ sum a (λ b. leastAt (k .symbols) d (losses (sittingIn k (records n l))) t (older s b))
-  pub rows : (t : Kind) → at (kids .rows) t ≡ sum a (λ b. length (membersAt (k .symbols) d (losses (sittingIn k (records n l))) t (older s b)))
-  pub onward : p + 1 ≤ kids .next
-  pub place : kids .next ≡ rank (turnKey (k .number) s a) (keys (records n l))
-  pub marked : Marked k n l (p + 1) (kids .next) cur
-  pub apart : Apart (p + 1) (kids .next) old cur
+  pub least : (t : Kind) → at (children .least) t ≡ sum a (λ b. leastAt (k .symbols) d (losses (sittingIn k (records n l))) t (older s b))
+  pub rows : (t : Kind) → at (children .rows) t ≡ sum a (λ b. length (membersAt (k .symbols) d (losses (sittingIn k (records n l))) t (older s b)))
+  pub onward : p + 1 ≤ children .next
+  pub place : children .next ≡ rank (turnKey (k .number) s a) (keys (records n l))
+  pub marked : Marked k n l (p + 1) (children .next) cur
+  pub apart : Apart (p + 1) (children .next) old cur
 
 -- sums by kind
 sum-of : (x y r : ByKind) → SumOf x y r → (t : Kind) → at r t ≡ at x t + at y t
@@ -62,12 +62,12 @@ module _ (k : Desk) (costs : ByKind) (n : ℕ) (l : List ℕ) (s : List ℕ) (c 
   abbrev f : Losses
   f = losses (sittingIn k (records n l))
 
-  module _ (old cur : List ℕ) (a child : ℕ) (kids : Weighed) (t : Turn k n l s (c .left - 1) p (c .span / 8) a child old cur kids) where
+  module _ (old cur : List ℕ) (a child : ℕ) (children : Weighed) (t : Turn k n l s (c .left - 1) p (c .span / 8) a child old cur children) where
     child-key : a < k .symbols → child ≡ keyOf (k .number) (older s a)
     child-key lt = t .child-is ∙ rw (steps.step-is k costs n l s c p q more) (sym (key-older (k .number) (steps.after s) s (steps.room k costs n l s c p q more) a))
 
     -- what a child's visit asks
-    pub turn-ready : a < k .symbols → Ready k costs n l (older s a) (record { key = child; span = c .span / 8; left = c .left - 1 }) (kids .next)
+    pub turn-ready : a < k .symbols → Ready k costs n l (older s a) (record { key = child; span = c .span / 8; left = c .left - 1 }) (children .next)
     turn-ready lt = record {
       weighable = q .weighable;
       priced = q .priced;
@@ -85,37 +85,37 @@ module _ (k : Desk) (costs : ByKind) (n : ℕ) (l : List ℕ) (s : List ℕ) (c 
     child-fits lt = omega (arith, t .child-is, steps.step-small k costs n l s c p q more a lt, steps.key-small k costs n l s c p q more)
 
     -- what it gives fits, and brings the next turn
-    module _ (lt : a < k .symbols) (new : List ℕ) (w : Weighed) (g : Visited k n l (older s a) (c .left - 1) (kids .next) cur new w) where
-      pub least-fits : Fits (kids .least) (w .least)
-      least-fits = fits-by (kids .least) (w .least) (λ i.
-          let h = turn-small a mostLoss (at (kids .least) i) (at (w .least) i) (omega (arith, q .weighable .few)) (t .least i) (small i) (rw (g .least i) (small i a)) in
+    module _ (lt : a < k .symbols) (new : List ℕ) (w : Weighed) (g : Visited k n l (older s a) (c .left - 1) (children .next) cur new w) where
+      pub least-fits : Fits (children .least) (w .least)
+      least-fits = fits-by (children .least) (w .least) (λ i.
+          let h = turn-small a mostLoss (at (children .least) i) (at (w .least) i) (omega (arith, q .weighable .few)) (t .least i) (small i) (rw (g .least i) (small i a)) in
           omega arith)
         where
           small : (i : Kind) (b : ℕ) → leastAt (k .symbols) (c .left - 1) f i (older s b) ≤ mostLoss
           small i b = omega (arith, least-le (k .symbols) (c .left - 1) f i (older s b), losses-most k n l (q .weighable) costs (q .priced) (older s b) i)
 
-      pub rows-fits : Fits (kids .rows) (w .rows)
-      rows-fits = fits-by (kids .rows) (w .rows) (λ i.
-          let h = turn-small a (2 * 8 ^ (c .left - 1)) (at (kids .rows) i) (at (w .rows) i) (omega (arith, q .weighable .few)) (t .rows i) (few i) (rw (g .rows i) (few i a)) in
+      pub rows-fits : Fits (children .rows) (w .rows)
+      rows-fits = fits-by (children .rows) (w .rows) (λ i.
+          let h = turn-small a (2 * 8 ^ (c .left - 1)) (at (children .rows) i) (at (w .rows) i) (omega (arith, q .weighable .few)) (t .rows i) (few i) (rw (g .rows i) (few i a)) in
           omega (arith, pow-le (c .left - 1) 6 (omega (arith, q .left-is, q .weighable .shallow))))
         where
           few : (i : Kind) (b : ℕ) → length (membersAt (k .symbols) (c .left - 1) f i (older s b)) ≤ 2 * 8 ^ (c .left - 1)
           few i b = members-few (k .symbols) f (q .weighable .few) (c .left - 1) i (older s b)
 
-      pub turn-next : (kids′ : Weighed) → ChildOf kids w kids′ → Turn k n l s (c .left - 1) p (c .span / 8) (a + 1) (child + c .span / 8) old new kids′
-      turn-next kids′ e = record {
+      pub turn-next : (children′ : Weighed) → ChildOf children w children′ → Turn k n l s (c .left - 1) p (c .span / 8) (a + 1) (child + c .span / 8) old new children′
+      turn-next children′ e = record {
         few = omega arith;
         child-is = omega (arith, t .child-is);
         least = λ i. sum-of _ _ _ (e .least) i ∙ ap₂ _+_ (t .least i) (g .least i) ∙ sym (sum-next a _);
         rows = λ i. sum-of _ _ _ (e .rows) i ∙ ap₂ _+_ (t .rows i) (g .rows i) ∙ sym (sum-next a _);
         place = e .onward ∙ g .past ∙ rw add-one;
         onward = omega (arith, t .onward, e .onward, further);
-        marked = marked-on k n l (p + 1) (kids .next) (kids′ .next) cur new (t .marked) (rw (e .onward) (g .marked)) (rw (e .onward) (g .apart));
-        apart = apart-on (p + 1) (kids .next) (kids′ .next) old cur new (t .onward) (omega (arith, e .onward, further)) (t .apart) (rw (e .onward) (g .apart));
+        marked = marked-on k n l (p + 1) (children .next) (children′ .next) cur new (t .marked) (rw (e .onward) (g .marked)) (rw (e .onward) (g .apart));
+        apart = apart-on (p + 1) (children .next) (children′ .next) old cur new (t .onward) (omega (arith, e .onward, further)) (t .apart) (rw (e .onward) (g .apart));
       }
         where
           -- a visit does not go back
-          further : kids .next ≤ w .next
+          further : children .next ≤ w .next
           further =
               let o = within k n l (q .weighable) (older s a) (steps.child-context k costs n l s c p q more a lt) in
               rw (g .past, t .place ∙ turn-at k n l (q .weighable) s (q .context) (steps.after s) (steps.room k costs n l s c p q more) (steps.deeper k costs n l s c p q more) a lt)
