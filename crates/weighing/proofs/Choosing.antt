@@ -41,14 +41,14 @@ module _ (A : ℕ) (f : Losses) (s : List ℕ) (o : ByKind) (is : (t : Kind) →
   pub leaf-mark : one (not (leb (o .shared) (o .first + o .second))) ≡ markAt A zero f s
   leaf-mark = rw (is shared, is (own first), is (own second)) (sym (mark-leaf A f s))
 
-  module _ (d : ℕ) (kids : Weighed) (less : (t : Kind) → at (kids .least) t ≡ lessBelow A d f s t) (some : (t : Kind) → at (kids .rows) t ≡ membersBelow A d f s t) where
-    own-least : (x : ℕ) (i : Sample) → x ≡ min (at o (own i)) (at (kids .least) (own i)) → x ≡ leastAt A (suc d) f (own i) s
+  module _ (d : ℕ) (children : Weighed) (less : (t : Kind) → at (children .least) t ≡ lessBelow A d f s t) (some : (t : Kind) → at (children .rows) t ≡ membersBelow A d f s t) where
+    own-least : (x : ℕ) (i : Sample) → x ≡ min (at o (own i)) (at (children .least) (own i)) → x ≡ leastAt A (suc d) f (own i) s
     own-least x i e = e ∙ rw (is (own i), less (own i)) (sym (least-split A d f s i))
 
-    own-members : (x : ℕ) (i : Sample) → x ≡ cond (leb (at o (own i)) (at (kids .least) (own i))) 1 (at (kids .rows) (own i)) → x ≡ length (membersAt A (suc d) f (own i) s)
+    own-members : (x : ℕ) (i : Sample) → x ≡ cond (leb (at o (own i)) (at (children .least) (own i))) 1 (at (children .rows) (own i)) → x ≡ length (membersAt A (suc d) f (own i) s)
     own-members x i e = e ∙ rw (is (own i), less (own i), some (own i)) (sym (members-split A d f s i))
 
-    module _ (r : Weighed) (g : SplitOf o kids r) where
+    module _ (r : Weighed) (g : SplitOf o children r) where
       least-first : r .least .first ≡ leastAt A (suc d) f (own first) s
       least-first = own-least (r .least .first) first (g .first)
 
@@ -68,8 +68,8 @@ module _ (A : ℕ) (f : Losses) (s : List ℕ) (o : ByKind) (is : (t : Kind) →
       split-members (own first) = own-members (r .rows .first) first (g .first-rows)
       split-members (own second) = own-members (r .rows .second) second (g .second-rows)
 
-    pub split-mark : choice (o .shared) (min (o .first) (kids .least .first) + min (o .second) (kids .least .second)) (kids .least .shared)
-        + 3 * one (not (leb (o .first) (kids .least .first))) + 6 * one (not (leb (o .second) (kids .least .second)))
+    pub split-mark : choice (o .shared) (min (o .first) (children .least .first) + min (o .second) (children .least .second)) (children .least .shared)
+        + 3 * one (not (leb (o .first) (children .least .first))) + 6 * one (not (leb (o .second) (children .least .second)))
         ≡ markAt A (suc d) f s
     split-mark =
         rw (is shared, is (own first), is (own second), less shared, less (own first), less (own second), ← (least-split A d f s first), ← (least-split A d f s second))

@@ -4,11 +4,14 @@ pub mod Standing
 pub mod Flat
 pub mod Counts
 pub mod Choosing
+pub mod Marks
 pub mod Visiting
+pub mod Steps
 pub mod Turning
-pub mod Whole
+pub mod Turned
 pub mod Planning
 pub mod Sheets
 pub mod Putting
 pub mod Reporting
 pub mod Onward
+pub mod Whole

@@ -29,7 +29,7 @@ use Rattle.weighing.specs.Plans.{wanted}
 use Rattle.weighing.specs.Writing.{sheetFor, Written, CanWrite}
 use Rattle.weighing.proofs.Blocks.{key-older}
 use Rattle.weighing.proofs.Cursor.{within}
-use Rattle.weighing.proofs.Turning.{pow-le, after, deeper, room, step-is, step-small, key-small, child-context}
+use Rattle.weighing.proofs.Steps.{pow-le, after, deeper, room, step-is, step-small, key-small, child-context}
 use Rattle.weighing.proofs.Sheets.{written-none, written-append, gather-next, gather-room}
 
 -- before the child at a of the context s, where d symbols are left below the children and w is wanted of them

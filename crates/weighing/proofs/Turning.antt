@@ -1,56 +1,49 @@
 -- The turns of a visit over the children of a held context, one symbol after the other. Assumes nothing.
-use Prim.Native.Nat.{ℕ, zero, suc, _+_, _-_, _*_, _/_, _^_, _≤_, _<_, min}
-use mathlib.Core.Path.{_≡_, refl, sym, ap, ap₂, subst, _∙_}
-use mathlib.Core.Bool.{true, not}
+use Prim.Native.Nat.{ℕ, suc, _+_, _-_, _*_, _/_, _^_, _≤_, _<_}
+use mathlib.Core.Path.{_≡_, sym, ap, ap₂, _∙_}
 use mathlib.Core.List.{List, [], _∷_}
 use native.Mathlib.Omega.{arith}
 use native.Mathlib.Numerals.{add-one}
-use native.Mathlib.Nat.{mul-le-mul-right, pow-suc}
-use lib.ListN.{length, getD, set, length-append}
-use lib.Dec.{T, leb}
-use Rattle.numbers.specs.Limits.{mostSymbols, deepest}
-use Rattle.numbers.specs.Sum.{one, sum}
+use native.Mathlib.Nat.{mul-le-mul-right}
+use lib.ListN.{length, length-append}
+use Rattle.numbers.specs.Limits.{mostSymbols}
+use Rattle.numbers.specs.Sum.{sum}
 use Rattle.numbers.proofs.Sums.{sum-next, sum-mono, sum-same}
-use Rattle.contexts.specs.Context.{isContext}
-use Rattle.contexts.specs.Keys.{keyOf, deskSpan, contextOf}
-use Rattle.contexts.proofs.KeyOrder.{pow-pos, contextOf-key, contextKey-lt}
+use Rattle.contexts.specs.Keys.{keyOf, contextOf}
+use Rattle.contexts.proofs.KeyOrder.{contextOf-key}
 use Rattle.contexts.specs.Sitting.{first, second}
 use Rattle.estimate.specs.Trees.{Kind, shared, own}
 use Rattle.estimate.specs.Recursion.{Losses, losses}
 use Rattle.estimate.specs.declared.ByKind.{ByKind}
 use Rattle.estimate.proofs.Tables.{at}
 use Rattle.rows.specs.Walk.{older}
-use Rattle.records.specs.Records.{width, records, keys}
-use Rattle.records.specs.Held.{rank, held}
+use Rattle.records.specs.Records.{records, keys}
+use Rattle.records.specs.Held.{rank}
 use Rattle.weighing.specs.declared.Desk.{Desk}
 use Rattle.weighing.specs.declared.Context.{Context}
 use Rattle.weighing.specs.declared.Weighed.{Weighed}
 use Rattle.weighing.specs.Sitting.{sittingIn}
-use Rattle.weighing.specs.Trees.{leastAt, membersAt, choice, markOf}
-use Rattle.weighing.specs.Visit.{endOf, Ready, Marked, Apart, Visited, mostLoss, SplitOf, SumOf, Fits, ChildOf}
-use Rattle.weighing.proofs.Cursor.{turnKey, within, end-within, turn-at, turns-past}
+use Rattle.weighing.specs.Trees.{leastAt, membersAt}
+use Rattle.weighing.specs.Visit.{endOf, Ready, Marked, Apart, Visited, mostLoss, SumOf, Fits, ChildOf}
+use Rattle.weighing.proofs.Cursor.{turnKey, within, turn-at}
 use Rattle.records.proofs.Rising.{rank-mono}
-use Rattle.weighing.proofs.Blocks.{begins-self, block-key, context-older, key-older}
+use Rattle.weighing.proofs.Blocks.{begins-self, block-key, key-older}
 use Rattle.weighing.proofs.Flat.{least-le, members-few}
 use Rattle.weighing.proofs.Counts.{losses-most}
-use Rattle.weighing.proofs.Choosing as choosing
-use Rattle.weighing.proofs.Visiting.{marked-on, apart-on, written-mark, written-apart, apart-none, past-own, there, mark-there}
+use Rattle.weighing.proofs.Steps as steps
+use Rattle.weighing.proofs.Steps.{pow-le}
+use Rattle.weighing.proofs.Marks.{marked-on, apart-on}
 
 -- before the child at a of the context s, which stands at place p; d symbols are left below the children
-pub record Turn (k : Desk) (n : ℕ) (l : List ℕ) (s : List ℕ) (d p step a child : ℕ) (old cur : List ℕ) (kids : Weighed) : Type 0 where
+pub record Turn (k : Desk) (n : ℕ) (l : List ℕ) (s : List ℕ) (d p step a child : ℕ) (old cur : List ℕ) (children : Weighed) : Type 0 where
   pub few : a ≤ k .symbols
   pub child-is : child ≡ keyOf (k .number) s + a * step + 1
-  pub least : (t : Kind) → at (kids .least) t ≡ sum a (λ b. leastAt (k .symbols) d (losses (sittingIn k (records n l))) t (older s b))
-  pub rows : (t : Kind) → at (kids .rows) t ≡ sum a (λ b. length (membersAt (k .symbols) d (losses (sittingIn k (records n l))) t (older s b)))
-  pub onward : p + 1 ≤ kids .next
-  pub place : kids .next ≡ rank (turnKey (k .number) s a) (keys (records n l))
-  pub marked : Marked k n l (p + 1) (kids .next) cur
-  pub apart : Apart (p + 1) (kids .next) old cur
-
-pub pow-le : (a b : ℕ) → a ≤ b → 8 ^ a ≤ 8 ^ b
-pow-le a zero h = let e : a ≡ 0 = omega arith in rw e (omega arith)
-pow-le zero (suc b) h = pow-pos (suc b)
-pow-le (suc a) (suc b) h = omega (arith, pow-le a b (omega arith), pow-suc 8 a, pow-suc 8 b)
+  pub least : (t : Kind) → at (children .least) t ≡ sum a (λ b. leastAt (k .symbols) d (losses (sittingIn k (records n l))) t (older s b))
+  pub rows : (t : Kind) → at (children .rows) t ≡ sum a (λ b. length (membersAt (k .symbols) d (losses (sittingIn k (records n l))) t (older s b)))
+  pub onward : p + 1 ≤ children .next
+  pub place : children .next ≡ rank (turnKey (k .number) s a) (keys (records n l))
+  pub marked : Marked k n l (p + 1) (children .next) cur
+  pub apart : Apart (p + 1) (children .next) old cur
 
 -- sums by kind
 sum-of : (x y r : ByKind) → SumOf x y r → (t : Kind) → at r t ≡ at x t + at y t
@@ -62,153 +55,68 @@ fits-by : (x y : ByKind) → ((t : Kind) → at x t + at y t < 2 ^ 64) → Fits 
 fits-by x y h = record { shared = h shared; first = h (own first); second = h (own second) }
 
 -- a sum over fewer than eight children, and one child more
-turn-small : (a m x y : ℕ) {g : ℕ → ℕ} → a ≤ mostSymbols → x ≡ sum a g → ((b : ℕ) → g b ≤ m) → y ≤ m → x + y ≤ 9 * m
+pub turn-small : (a m x y : ℕ) {g : ℕ → ℕ} → a ≤ mostSymbols → x ≡ sum a g → ((b : ℕ) → g b ≤ m) → y ≤ m → x + y ≤ 9 * m
 turn-small a m x y few e h y-le = omega (arith, sum-mono a {g = λ b. m} (λ b l. h b), sum-same a m, mul-le-mul-right m few)
-
--- how many symbols could follow a child of s
-pub after : List ℕ → ℕ
-after s = 5 - length s
 
 module _ (k : Desk) (costs : ByKind) (n : ℕ) (l : List ℕ) (s : List ℕ) (c : Context) (p : ℕ) (q : Ready k costs n l s c p) (more : c .left ≡ 0 → ⊥) where
   abbrev f : Losses
   f = losses (sittingIn k (records n l))
 
-  pub deeper : length s < k .depth
-  deeper = let z = more in omega (arith, q .left-is)
-
-  pub room : length s + suc (after s) ≡ deepest
-  unfolding after
-  room = omega (arith, deeper, q .weighable .shallow)
-
-  pub step-is : c .span / 8 ≡ 8 ^ suc (after s)
-  step-is = let e : 7 - length s ≡ suc (suc (after s)) = omega (arith, room) in rw (q .span-is, e) (omega (arith, pow-suc 8 (suc (after s))))
-
-  pub step-small : (a : ℕ) → a < k .symbols → suc a * (c .span / 8) ≤ deskSpan
-  step-small a lt =
-      let w = q .weighable in
-      omega (arith, end-within k n l w s (within k n l w s (q .context)), q .span-is, mul-le-mul-right {m = suc a} {n = 8} (c .span / 8) (omega (arith, w .few)))
-
-  pub key-small : keyOf (k .number) s < 8 * deskSpan
-  key-small = let w = q .weighable in omega (arith, contextKey-lt s (within k n l w s (q .context)), w .desk)
-
-  pub key-fits : c .key + 1 < 2 ^ 32
-  key-fits = omega (arith, key-small, q .key-is)
-
-  pub child-context : (a : ℕ) → a < k .symbols → T (isContext (k .symbols) (k .depth) (older s a))
-  child-context a lt = context-older (k .symbols) (k .depth) s a (q .context) lt deeper
-
-  module _ (old cur : List ℕ) (a child : ℕ) (kids : Weighed) (t : Turn k n l s (c .left - 1) p (c .span / 8) a child old cur kids) where
+  module _ (old cur : List ℕ) (a child : ℕ) (children : Weighed) (t : Turn k n l s (c .left - 1) p (c .span / 8) a child old cur children) where
     child-key : a < k .symbols → child ≡ keyOf (k .number) (older s a)
-    child-key lt = t .child-is ∙ rw step-is (sym (key-older (k .number) (after s) s room a))
+    child-key lt = t .child-is ∙ rw (steps.step-is k costs n l s c p q more) (sym (key-older (k .number) (steps.after s) s (steps.room k costs n l s c p q more) a))
 
     -- what a child's visit asks
-    pub turn-ready : a < k .symbols → Ready k costs n l (older s a) (record { key = child; span = c .span / 8; left = c .left - 1 }) (kids .next)
+    pub turn-ready : a < k .symbols → Ready k costs n l (older s a) (record { key = child; span = c .span / 8; left = c .left - 1 }) (children .next)
     turn-ready lt = record {
       weighable = q .weighable;
       priced = q .priced;
-      context = child-context a lt;
+      context = steps.child-context k costs n l s c p q more a lt;
       key-is = child-key lt;
-      span-is = let e : 7 - length (older s a) ≡ suc (after s) = omega (arith, length-append s (a ∷ []), room) in step-is ∙ rw e;
+      span-is = let e : 7 - length (older s a) ≡ suc (steps.after s) = omega (arith, length-append s (a ∷ []), steps.room k costs n l s c p q more) in steps.step-is k costs n l s c p q more ∙ rw e;
       left-is = let z = more in omega (arith, length-append s (a ∷ []), q .left-is);
-      place = t .place ∙ turn-at k n l (q .weighable) s (q .context) (after s) room deeper a lt;
+      place = t .place ∙ turn-at k n l (q .weighable) s (q .context) (steps.after s) (steps.room k costs n l s c p q more) (steps.deeper k costs n l s c p q more) a lt;
     }
 
     pub child-is : a < k .symbols → contextOf child ≡ older s a
-    child-is lt = ap contextOf (child-key lt) ∙ contextOf-key (k .number) (older s a) (within k n l (q .weighable) (older s a) (child-context a lt))
+    child-is lt = ap contextOf (child-key lt) ∙ contextOf-key (k .number) (older s a) (within k n l (q .weighable) (older s a) (steps.child-context k costs n l s c p q more a lt))
 
     pub child-fits : a < k .symbols → child + c .span / 8 < 2 ^ 32
-    child-fits lt = omega (arith, t .child-is, step-small a lt, key-small)
+    child-fits lt = omega (arith, t .child-is, steps.step-small k costs n l s c p q more a lt, steps.key-small k costs n l s c p q more)
 
     -- what it gives fits, and brings the next turn
-    module _ (lt : a < k .symbols) (new : List ℕ) (w : Weighed) (g : Visited k n l (older s a) (c .left - 1) (kids .next) cur new w) where
-      pub least-fits : Fits (kids .least) (w .least)
-      least-fits = fits-by (kids .least) (w .least) (λ i.
-          let h = turn-small a mostLoss (at (kids .least) i) (at (w .least) i) (omega (arith, q .weighable .few)) (t .least i) (small i) (rw (g .least i) (small i a)) in
+    module _ (lt : a < k .symbols) (new : List ℕ) (w : Weighed) (g : Visited k n l (older s a) (c .left - 1) (children .next) cur new w) where
+      pub least-fits : Fits (children .least) (w .least)
+      least-fits = fits-by (children .least) (w .least) (λ i.
+          let h = turn-small a mostLoss (at (children .least) i) (at (w .least) i) (omega (arith, q .weighable .few)) (t .least i) (small i) (rw (g .least i) (small i a)) in
           omega arith)
         where
           small : (i : Kind) (b : ℕ) → leastAt (k .symbols) (c .left - 1) f i (older s b) ≤ mostLoss
           small i b = omega (arith, least-le (k .symbols) (c .left - 1) f i (older s b), losses-most k n l (q .weighable) costs (q .priced) (older s b) i)
 
-      pub rows-fits : Fits (kids .rows) (w .rows)
-      rows-fits = fits-by (kids .rows) (w .rows) (λ i.
-          let h = turn-small a (2 * 8 ^ (c .left - 1)) (at (kids .rows) i) (at (w .rows) i) (omega (arith, q .weighable .few)) (t .rows i) (few i) (rw (g .rows i) (few i a)) in
+      pub rows-fits : Fits (children .rows) (w .rows)
+      rows-fits = fits-by (children .rows) (w .rows) (λ i.
+          let h = turn-small a (2 * 8 ^ (c .left - 1)) (at (children .rows) i) (at (w .rows) i) (omega (arith, q .weighable .few)) (t .rows i) (few i) (rw (g .rows i) (few i a)) in
           omega (arith, pow-le (c .left - 1) 6 (omega (arith, q .left-is, q .weighable .shallow))))
         where
           few : (i : Kind) (b : ℕ) → length (membersAt (k .symbols) (c .left - 1) f i (older s b)) ≤ 2 * 8 ^ (c .left - 1)
           few i b = members-few (k .symbols) f (q .weighable .few) (c .left - 1) i (older s b)
 
-      pub turn-next : (kids′ : Weighed) → ChildOf kids w kids′ → Turn k n l s (c .left - 1) p (c .span / 8) (a + 1) (child + c .span / 8) old new kids′
-      turn-next kids′ e = record {
+      pub turn-next : (children′ : Weighed) → ChildOf children w children′ → Turn k n l s (c .left - 1) p (c .span / 8) (a + 1) (child + c .span / 8) old new children′
+      turn-next children′ e = record {
         few = omega arith;
         child-is = omega (arith, t .child-is);
         least = λ i. sum-of _ _ _ (e .least) i ∙ ap₂ _+_ (t .least i) (g .least i) ∙ sym (sum-next a _);
         rows = λ i. sum-of _ _ _ (e .rows) i ∙ ap₂ _+_ (t .rows i) (g .rows i) ∙ sym (sum-next a _);
         place = e .onward ∙ g .past ∙ rw add-one;
         onward = omega (arith, t .onward, e .onward, further);
-        marked = marked-on k n l (p + 1) (kids .next) (kids′ .next) cur new (t .marked) (rw (e .onward) (g .marked)) (rw (e .onward) (g .apart));
-        apart = apart-on (p + 1) (kids .next) (kids′ .next) old cur new (t .onward) (omega (arith, e .onward, further)) (t .apart) (rw (e .onward) (g .apart));
+        marked = marked-on k n l (p + 1) (children .next) (children′ .next) cur new (t .marked) (rw (e .onward) (g .marked)) (rw (e .onward) (g .apart));
+        apart = apart-on (p + 1) (children .next) (children′ .next) old cur new (t .onward) (omega (arith, e .onward, further)) (t .apart) (rw (e .onward) (g .apart));
       }
         where
           -- a visit does not go back
-          further : kids .next ≤ w .next
+          further : children .next ≤ w .next
           further =
-              let o = within k n l (q .weighable) (older s a) (child-context a lt) in
-              rw (g .past, t .place ∙ turn-at k n l (q .weighable) s (q .context) (after s) room deeper a lt)
+              let o = within k n l (q .weighable) (older s a) (steps.child-context k costs n l s c p q more a lt) in
+              rw (g .past, t .place ∙ turn-at k n l (q .weighable) s (q .context) (steps.after s) (steps.room k costs n l s c p q more) (steps.deeper k costs n l s c p q more) a lt)
               (rank-mono (keyOf (k .number) (older s a)) (endOf (k .number) (older s a)) (keys (records n l)) (omega (arith, block-key (k .number) (older s a) (older s a) o o (begins-self (older s a)))))
-
-  -- ---- the first turn, and after the last
-  module _ (on : held (c .key) (records n l) ≡ true) (old : List ℕ) where
-    pub turns-begin : (kids : Weighed) → ((i : Kind) → at (kids .least) i ≡ 0) → ((i : Kind) → at (kids .rows) i ≡ 0) → kids .next ≡ p + 1
-        → Turn k n l s (c .left - 1) p (c .span / 8) 0 (c .key + 1) old old kids
-    unfolding sum
-    turns-begin kids z y e = record {
-      few = omega arith;
-      child-is = omega (arith, q .key-is);
-      least = z;
-      rows = y;
-      onward = omega arith;
-      place = e ∙ past-own k costs n l s c p q on;
-      marked = record { is = λ x lo hi. absurd (omega arith) };
-      apart = apart-none (p + 1) (kids .next) old;
-    }
-
-    module _ (cur : List ℕ) (a child : ℕ) (kids : Weighed) (t : Turn k n l s (c .left - 1) p (c .span / 8) a child old cur kids) (done : k .symbols ≤ a) where
-      all : a ≡ k .symbols
-      all = omega (arith, t .few)
-
-      back : suc (c .left - 1) ≡ c .left
-      back = let z = more in omega arith
-
-      less : (i : Kind) → at (kids .least) i ≡ sum (k .symbols) (λ b. leastAt (k .symbols) (c .left - 1) f i (older s b))
-      less i = t .least i ∙ ap (λ (m : ℕ). sum m (λ b. leastAt (k .symbols) (c .left - 1) f i (older s b))) all
-
-      some : (i : Kind) → at (kids .rows) i ≡ sum (k .symbols) (λ b. length (membersAt (k .symbols) (c .left - 1) f i (older s b)))
-      some i = t .rows i ∙ ap (λ (m : ℕ). sum m (λ b. length (membersAt (k .symbols) (c .left - 1) f i (older s b)))) all
-
-      pub rows-small : kids .rows .first + kids .rows .second + 2 < 2 ^ 64
-      rows-small = omega (arith, few (own first), few (own second), pow-le (c .left - 1) 6 (omega (arith, q .left-is, q .weighable .shallow)))
-        where
-          few : (i : Kind) → at (kids .rows) i ≤ 9 * (2 * 8 ^ (c .left - 1))
-          few i = omega (arith, turn-small a (2 * 8 ^ (c .left - 1)) (at (kids .rows) i) 0 (omega (arith, q .weighable .few)) (t .rows i) (λ b. members-few (k .symbols) f (q .weighable .few) (c .left - 1) i (older s b)) (omega arith))
-
-      last : (m : ℕ) → a ≡ m → rank (turnKey (k .number) s m) (keys (records n l)) ≡ rank (endOf (k .number) s) (keys (records n l))
-      last zero e = absurd (omega (arith, all, q .weighable .some))
-      last (suc b) e = turns-past k n l (q .weighable) s (q .context) (after s) room deeper b (omega (arith, all))
-
-      pub turns-end : (o : ByKind) → ((i : Kind) → at o i ≡ f i s) → (v : ℕ)
-          → v ≡ choice (o .shared) (min (o .first) (kids .least .first) + min (o .second) (kids .least .second)) (kids .least .shared)
-          + 3 * one (not (leb (o .first) (kids .least .first))) + 6 * one (not (leb (o .second) (kids .least .second)))
-          → n ≤ length cur → (r : Weighed) → SplitOf o kids r → Visited k n l s (c .left) p old (set cur p v) r
-      turns-end o is v e long r g = subst (λ (d : ℕ). Visited k n l s d p old (set cur p v) r) back (record {
-        least = choosing.split-least (k .symbols) f s o is (c .left - 1) kids less some r g;
-        rows = choosing.split-members (k .symbols) f s o is (c .left - 1) kids less some r g;
-        past = g .onward ∙ t .place ∙ last a refl;
-        marked = rw (g .onward) (written-mark k n l p (kids .next) v old cur long (here .0) mark (t .marked));
-        apart = rw (g .onward) (written-apart k n l p (kids .next) v old cur long (here .0) mark (omega (arith, t .onward)) (t .apart));
-      })
-        where
-          here : (p < n) × (getD l (width * p) 0 ≡ keyOf (k .number) s)
-          here = there k costs n l s c p q on
-
-          mark : v ≡ markOf (k .symbols) (k .depth) f (getD l (width * p) 0)
-          mark = mark-there k costs n l s c p q on (suc (c .left - 1)) v (omega (arith, back, q .left-is)) (e ∙ choosing.split-mark (k .symbols) f s o is (c .left - 1) kids less some)

@@ -14,6 +14,7 @@ use Rattle.records.specs.Records.{records, countsOf, lookup}
 use Rattle.records.specs.Held.{held, Standing}
 use Rattle.weighing.specs.declared.Desk.{Desk}
 
+-- n and m, by sample
 abbrev pub sizes : ℕ → ℕ → Sample → ℕ
 sizes n m first = n
 sizes n m second = m

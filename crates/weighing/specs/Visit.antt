@@ -2,7 +2,7 @@
 use mathlib.Core.Path.{_≡_}
 use mathlib.Core.Bool.{cond}
 use mathlib.Core.List.{List}
-use Prim.Native.Nat.{ℕ, _+_, _-_, _*_, _^_, _≤_, _<_, min}
+use Prim.Native.Nat.{ℕ, suc, _+_, _-_, _*_, _^_, _≤_, _<_, min}
 use lib.ListN.{length, getD}
 use lib.Dec.{T, leb}
 use Rattle.numbers.specs.Limits.{deepest, mostSymbols, mostCounted, topLog}
@@ -24,9 +24,9 @@ use Rattle.weighing.specs.Trees.{leastAt, membersAt, markOf}
 
 -- ---- where a visit stands
 
--- how many keys the block of a context has: 8 for each symbol that could follow it, and for its length
+-- how many keys the block of a context has: an octal digit for each symbol that could follow, and one for the length
 abbrev pub spanOf : List ℕ → ℕ
-spanOf s = 8 ^ (7 - length s)
+spanOf s = 8 ^ (suc deepest - length s)
 
 -- where the block of a desk's context ends: no context that begins with s has this key or one above
 abbrev pub endOf : ℕ → List ℕ → ℕ
@@ -80,6 +80,7 @@ pub record Visited (k : Desk) (n : ℕ) (l : List ℕ) (s : List ℕ) (d p : ℕ
 abbrev pub mostLoss : ℕ
 mostLoss = mostSymbols * topLog + 2 * (mostCounted * topLog)
 
+-- two such losses can be added
 pub record Small (own : ByKind) : Type 0 where
   pub first : own .first ≤ mostLoss
   pub second : own .second ≤ mostLoss
@@ -95,23 +96,24 @@ pub record LeafOf (own : ByKind) (next : ℕ) (r : Weighed) : Type 0 where
   pub onward : r .next ≡ next
 
 -- a leaf with these losses, or a split over children that lose and hold this together
-pub record SplitOf (own : ByKind) (kids r : Weighed) : Type 0 where
-  pub first : r .least .first ≡ min (own .first) (kids .least .first)
-  pub second : r .least .second ≡ min (own .second) (kids .least .second)
-  pub joint : r .least .shared ≡ min (own .shared) (min (r .least .first + r .least .second) (kids .least .shared))
-  pub first-rows : r .rows .first ≡ cond (leb (own .first) (kids .least .first)) 1 (kids .rows .first)
-  pub second-rows : r .rows .second ≡ cond (leb (own .second) (kids .least .second)) 1 (kids .rows .second)
+pub record SplitOf (own : ByKind) (children r : Weighed) : Type 0 where
+  pub first : r .least .first ≡ min (own .first) (children .least .first)
+  pub second : r .least .second ≡ min (own .second) (children .least .second)
+  pub joint : r .least .shared ≡ min (own .shared) (min (r .least .first + r .least .second) (children .least .shared))
+  pub first-rows : r .rows .first ≡ cond (leb (own .first) (children .least .first)) 1 (children .rows .first)
+  pub second-rows : r .rows .second ≡ cond (leb (own .second) (children .least .second)) 1 (children .rows .second)
   pub joint-rows : r .rows .shared
-      ≡ cond (leb (own .shared) (min (r .least .first + r .least .second) (kids .least .shared))) 1
-      (cond (leb (r .least .first + r .least .second) (kids .least .shared)) (r .rows .first + r .rows .second) (kids .rows .shared))
-  pub onward : r .next ≡ kids .next
+      ≡ cond (leb (own .shared) (min (r .least .first + r .least .second) (children .least .shared))) 1
+      (cond (leb (r .least .first + r .least .second) (children .least .shared)) (r .rows .first + r .rows .second) (children .rows .shared))
+  pub onward : r .next ≡ children .next
 
--- the sums of two
+-- the sums of two, kind by kind
 pub record SumOf (x y r : ByKind) : Type 0 where
   pub shared : r .shared ≡ x .shared + y .shared
   pub first : r .first ≡ x .first + y .first
   pub second : r .second ≡ x .second + y .second
 
+-- .. which are numbers of 64 bits
 pub record Fits (x y : ByKind) : Type 0 where
   pub shared : x .shared + y .shared < 2 ^ 64
   pub first : x .first + y .first < 2 ^ 64
@@ -123,8 +125,8 @@ pub record NoneOf (next : ℕ) (r : Weighed) : Type 0 where
   pub rows : (t : Kind) → at (r .rows) t ≡ 0
   pub onward : r .next ≡ next
 
--- .. and where the walk goes on after the second
-pub record ChildOf (kids w r : Weighed) : Type 0 where
-  pub least : SumOf (kids .least) (w .least) (r .least)
-  pub rows : SumOf (kids .rows) (w .rows) (r .rows)
+-- one child more: the sums, and where the walk goes on after it
+pub record ChildOf (children w r : Weighed) : Type 0 where
+  pub least : SumOf (children .least) (w .least) (r .least)
+  pub rows : SumOf (children .rows) (w .rows) (r .rows)
   pub onward : r .next ≡ w .next

@@ -75,8 +75,9 @@ pub fn write_rows(numbers: &[u32], n: usize, desk: Desk, kept: &[u8], sheet: &mu
         first: false,
         second: false,
     };
+    let key = desk.number * DESK_SPAN;
     let root = Spot {
-        key: desk.number * DESK_SPAN,
+        key,
         span: DESK_SPAN,
         left: desk.depth,
         code: 0,
@@ -127,22 +128,19 @@ fn visit(
     }
     let span = here.span / 8;
     let mut key = here.key + 1;
-    let mut kids = none_yet(at + 1);
+    let mut children = none_yet(at + 1);
     let mut a: u32 = 0;
     while a < desk.symbols {
-        let next = kids.next;
-        let child = Context {
-            key,
-            span,
-            left: here.left - 1,
-        };
+        let next = children.next;
+        let left = here.left - 1;
+        let child = Context { key, span, left };
         let w = visit(numbers, kept, n, desk, costs, child, next);
-        kids = and_child(kids, w);
+        children = and_child(children, w);
         key += span;
         a += 1;
     }
-    kept[at] = split_mark(own, kids.least);
-    as_split(own, kids)
+    kept[at] = split_mark(own, children.least);
+    as_split(own, children)
 }
 
 // Whether the record at the place of a key has it.
@@ -184,12 +182,12 @@ fn as_leaf(own: ByKind, next: usize) -> Weighed
 }
 
 // The context is a leaf with these losses, or a split over children that lose and hold this together.
-fn as_split(own: ByKind, kids: Weighed) -> Weighed
-    requires { ⌜ Small own × (kids .rows .first + kids .rows .second + 2 < 2 ^ 64) ⌝ }
-    ensures { λ r. ⌜ SplitOf own kids r ⌝ }
+fn as_split(own: ByKind, children: Weighed) -> Weighed
+    requires { ⌜ Small own × (children .rows .first + children .rows .second + 2 < 2 ^ 64) ⌝ }
+    ensures { λ r. ⌜ SplitOf own children r ⌝ }
 {
-    let below = kids.least;
-    let held = kids.rows;
+    let below = children.least;
+    let held = children.rows;
     let first = smaller(own.first, below.first);
     let second = smaller(own.second, below.second);
     let first_rows = own_rows(own.first, below.first, held.first);
@@ -214,7 +212,7 @@ fn as_split(own: ByKind, kids: Weighed) -> Weighed
     Weighed {
         least,
         rows,
-        next: kids.next,
+        next: children.next,
     }
 }
 
@@ -235,13 +233,13 @@ fn none_yet(next: usize) -> Weighed
 }
 
 // One child more.
-fn and_child(kids: Weighed, w: Weighed) -> Weighed
-    requires { ⌜ Fits (kids .least) (w .least) × Fits (kids .rows) (w .rows) ⌝ }
-    ensures { λ r. ⌜ ChildOf kids w r ⌝ }
+fn and_child(children: Weighed, w: Weighed) -> Weighed
+    requires { ⌜ Fits (children .least) (w .least) × Fits (children .rows) (w .rows) ⌝ }
+    ensures { λ r. ⌜ ChildOf children w r ⌝ }
 {
     Weighed {
-        least: plus(kids.least, w.least),
-        rows: plus(kids.rows, w.rows),
+        least: plus(children.least, w.least),
+        rows: plus(children.rows, w.rows),
         next: w.next,
     }
 }
@@ -390,12 +388,14 @@ fn write_from(
     let mut code = spot.code;
     let mut a: u32 = 0;
     while a < desk.symbols {
+        let left = spot.left - 1;
+        let power = 8 * spot.power;
         let child = Spot {
             key,
             span,
-            left: spot.left - 1,
+            left,
             code,
-            power: 8 * spot.power,
+            power,
             way,
         };
         past = write_from(numbers, n, kept, desk, costs, sheet, child, past);

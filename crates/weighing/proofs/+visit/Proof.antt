@@ -12,6 +12,8 @@ use mathlib.Core.List.{List}
 use Rattle.rows.specs.Walk.{older}
 use Rattle.weighing.specs.Visit.{Ready, Visited}
 use Rattle.weighing.proofs.Visiting as visiting
+use Rattle.weighing.proofs.Steps as steps
+use Rattle.weighing.proofs.Turned as turned
 use Rattle.weighing.proofs.Turning as turning
 use borrow.Fn.Kinds.{In}
 use borrow.Fn.PlainCycle.{Measures, is, falls, and}
@@ -43,11 +45,11 @@ abbrev visit-calls : ℕ → visit-lts.Claims
 visit-calls t = (held-at-reads.Asked, held-at-reads.Learnt, as-leaf-reads.Asked, as-leaf-reads.Learnt, losses-at-reads.Asked, losses-at-reads.Learnt, leaf-mark-reads.Asked, leaf-mark-reads.Learnt, none-yet-reads.Asked, none-yet-reads.Learnt, visit-below t, visit.Post, and-child-reads.Asked, and-child-reads.Learnt, split-mark-reads.Asked, split-mark-reads.Learnt, as-split-reads.Asked, as-split-reads.Learnt)
 
 abbrev visit-Inv-loop : visit-lts.InvT-loop
-visit-Inv-loop numbers kept₀ n desk costs here at own span key₀ kids₀ a₀ kept key kids a =
-    (length kept ≡ length kept₀) × turning.Turn desk n numbers (contextOf (here .key)) (here .left - 1) at span a key kept₀ kept kids
+visit-Inv-loop numbers kept₀ n desk costs here at own span key₀ kids₀ a₀ kept key children a =
+    (length kept ≡ length kept₀) × turning.Turn desk n numbers (contextOf (here .key)) (here .left - 1) at span a key kept₀ kept children
 
 abbrev visit-μ-loop : visit-lts.MeasureT-loop
-visit-μ-loop numbers kept₀ n desk costs here at own span key₀ kids₀ a₀ kept key kids a = desk .symbols - a
+visit-μ-loop numbers kept₀ n desk costs here at own span key₀ kids₀ a₀ kept key children a = desk .symbols - a
 
 -- the record at the context's place has its key
 visit-on : (t : ℕ) (c : visit-lts.Else1 (visit-calls t) (visit-at t) visit.Post visit-Inv-loop visit-μ-loop)
@@ -99,7 +101,7 @@ visit-returns-2 t c = let s = c .before .before .before .before .before .before 
 
 visit-add-key : (t : ℕ) → visit-lts.Need-add-key (visit-calls t) (visit-at t) visit.Post visit-Inv-loop visit-μ-loop
 visit-add-key t c = let s = c .before .before .before .before .before .before .before .before .before in
-    record { fits = turning.key-fits (s .args .desk) (s .args .costs) (s .args .n) (s .args .numbers .now) (contextOf (s .args .here .key)) (s .args .here) (s .args .at) (s .pre .1 .1) (c .before .before .if2 .left) }
+    record { fits = steps.key-fits (s .args .desk) (s .args .costs) (s .args .n) (s .args .numbers .now) (contextOf (s .args .here .key)) (s .args .here) (s .args .at) (s .pre .1 .1) (c .before .before .if2 .left) }
 
 visit-add-none-yet : (t : ℕ) → visit-lts.Need-add-none-yet (visit-calls t) (visit-at t) visit.Post visit-Inv-loop visit-μ-loop
 visit-add-none-yet t c = let s = c .before .before .before .before .before .before .before .before .before in
@@ -111,10 +113,10 @@ visit-none-yet-requires t c κs = tt
 visit-loop-holds : (t : ℕ) → visit-lts.Need-loop-holds (visit-calls t) (visit-at t) visit.Post visit-Inv-loop visit-μ-loop
 visit-loop-holds t c = let s = c .before .before .before .before .before .before .before .before .before .before in
     let z = c .none-yet .ensures in
-    (refl, turning.turns-begin (s .args .desk) (s .args .costs) (s .args .n) (s .args .numbers .now) (contextOf (s .args .here .key)) (s .args .here) (s .args .at) (s .pre .1 .1) (c .before .before .before .if2 .left) (visit-on t (c .before .before .before .before .before .before)) (s .args .kept .now) (c .none-yet .result) (z .least) (z .rows) (z .onward))
+    (refl, turned.turns-begin (s .args .desk) (s .args .costs) (s .args .n) (s .args .numbers .now) (contextOf (s .args .here .key)) (s .args .here) (s .args .at) (s .pre .1 .1) (c .before .before .before .if2 .left) (visit-on t (c .before .before .before .before .before .before)) (s .args .kept .now) (c .none-yet .result) (z .least) (z .rows) (z .onward))
 
-visit-sub-t23 : (t : ℕ) → visit-lts.Need-sub-t23 (visit-calls t) (visit-at t) visit.Post visit-Inv-loop visit-μ-loop
-visit-sub-t23 t c = omega (arith, c .before .before .before .before .before .before .before .if2 .left)
+visit-sub-left : (t : ℕ) → visit-lts.Need-sub-left (visit-calls t) (visit-at t) visit.Post visit-Inv-loop visit-μ-loop
+visit-sub-left t c = omega (arith, c .before .before .before .before .before .before .before .if2 .left)
 
 visit-visit-requires : (t : ℕ) → visit-lts.Need-visit-requires (visit-calls t) (visit-at t) visit.Post visit-Inv-loop visit-μ-loop
 visit-visit-requires t c κs = let s = c .before .before .before .before .before .before .before .before .before .before .before .before .before .before .before in
@@ -124,8 +126,8 @@ visit-visit-requires t c κs = let s = c .before .before .before .before .before
       omega (arith, s .pre .0, z),
       (
         omega (arith, m .inv .0, s .pre .1 .0),
-        subst (λ (u : List ℕ). Ready (s .args .desk) (s .args .costs) (s .args .n) (s .args .numbers .now) u (record { key = m .key; span = s .args .here .span / 8; left = s .args .here .left - 1 }) (m .kids .next)) (sym (turning.child-is (s .args .desk) (s .args .costs) (s .args .n) (s .args .numbers .now) (contextOf (s .args .here .key)) (s .args .here) (s .args .at) (s .pre .1 .1) z (s .args .kept .now) (m .kept) (m .a) (m .key) (m .kids) (m .inv .1) lt))
-            (turning.turn-ready (s .args .desk) (s .args .costs) (s .args .n) (s .args .numbers .now) (contextOf (s .args .here .key)) (s .args .here) (s .args .at) (s .pre .1 .1) z (s .args .kept .now) (m .kept) (m .a) (m .key) (m .kids) (m .inv .1) lt),
+        subst (λ (u : List ℕ). Ready (s .args .desk) (s .args .costs) (s .args .n) (s .args .numbers .now) u (record { key = m .key; span = s .args .here .span / 8; left = s .args .here .left - 1 }) (m .children .next)) (sym (turning.child-is (s .args .desk) (s .args .costs) (s .args .n) (s .args .numbers .now) (contextOf (s .args .here .key)) (s .args .here) (s .args .at) (s .pre .1 .1) z (s .args .kept .now) (m .kept) (m .a) (m .key) (m .children) (m .inv .1) lt))
+            (turning.turn-ready (s .args .desk) (s .args .costs) (s .args .n) (s .args .numbers .now) (contextOf (s .args .here .key)) (s .args .here) (s .args .at) (s .pre .1 .1) z (s .args .kept .now) (m .kept) (m .a) (m .key) (m .children) (m .inv .1) lt),
       ),
     )
 
@@ -133,12 +135,12 @@ visit-visit-requires t c κs = let s = c .before .before .before .before .before
 visit-gave : (t : ℕ) (c : visit-lts.After-visit (visit-calls t) (visit-at t) visit.Post visit-Inv-loop visit-μ-loop)
     → let s = c .before .before .before .before .before .before .before .before .before .before .before .before .before .before .before .before in
     let m = c .before .before .before .before .before .loop in
-    Visited (s .args .desk) (s .args .n) (s .args .numbers .now) (older (contextOf (s .args .here .key)) (m .a)) (s .args .here .left - 1) (m .kids .next) (m .kept) (c .visit .last .1 .0) (c .visit .result)
+    Visited (s .args .desk) (s .args .n) (s .args .numbers .now) (older (contextOf (s .args .here .key)) (m .a)) (s .args .here .left - 1) (m .children .next) (m .kept) (c .visit .last .1 .0) (c .visit .result)
 visit-gave t c =
     let s = c .before .before .before .before .before .before .before .before .before .before .before .before .before .before .before .before in
     let m = c .before .before .before .before .before .loop in
-    subst (λ (u : List ℕ). Visited (s .args .desk) (s .args .n) (s .args .numbers .now) u (s .args .here .left - 1) (m .kids .next) (m .kept) (c .visit .last .1 .0) (c .visit .result))
-    (turning.child-is (s .args .desk) (s .args .costs) (s .args .n) (s .args .numbers .now) (contextOf (s .args .here .key)) (s .args .here) (s .args .at) (s .pre .1 .1) (c .before .before .before .before .before .before .before .before .before .if2 .left) (s .args .kept .now) (m .kept) (m .a) (m .key) (m .kids) (m .inv .1) (c .before .before .before .if3 .taken))
+    subst (λ (u : List ℕ). Visited (s .args .desk) (s .args .n) (s .args .numbers .now) u (s .args .here .left - 1) (m .children .next) (m .kept) (c .visit .last .1 .0) (c .visit .result))
+    (turning.child-is (s .args .desk) (s .args .costs) (s .args .n) (s .args .numbers .now) (contextOf (s .args .here .key)) (s .args .here) (s .args .at) (s .pre .1 .1) (c .before .before .before .before .before .before .before .before .before .if2 .left) (s .args .kept .now) (m .kept) (m .a) (m .key) (m .children) (m .inv .1) (c .before .before .before .if3 .taken))
     (c .visit .ensures)
 
 visit-and-child-requires : (t : ℕ) → visit-lts.Need-and-child-requires (visit-calls t) (visit-at t) visit.Post visit-Inv-loop visit-μ-loop
@@ -148,12 +150,12 @@ visit-and-child-requires t c κs = let s = c .before .before .before .before .be
     let lt = c .before .before .before .before .before .if3 .taken in
     let w = c .before .before .visit in
     let g = visit-gave t (c .before .before) in
-    (turning.least-fits (s .args .desk) (s .args .costs) (s .args .n) (s .args .numbers .now) (contextOf (s .args .here .key)) (s .args .here) (s .args .at) (s .pre .1 .1) z (s .args .kept .now) (m .kept) (m .a) (m .key) (m .kids) (m .inv .1) lt (w .last .1 .0) (w .result) g, turning.rows-fits (s .args .desk) (s .args .costs) (s .args .n) (s .args .numbers .now) (contextOf (s .args .here .key)) (s .args .here) (s .args .at) (s .pre .1 .1) z (s .args .kept .now) (m .kept) (m .a) (m .key) (m .kids) (m .inv .1) lt (w .last .1 .0) (w .result) g)
+    (turning.least-fits (s .args .desk) (s .args .costs) (s .args .n) (s .args .numbers .now) (contextOf (s .args .here .key)) (s .args .here) (s .args .at) (s .pre .1 .1) z (s .args .kept .now) (m .kept) (m .a) (m .key) (m .children) (m .inv .1) lt (w .last .1 .0) (w .result) g, turning.rows-fits (s .args .desk) (s .args .costs) (s .args .n) (s .args .numbers .now) (contextOf (s .args .here .key)) (s .args .here) (s .args .at) (s .pre .1 .1) z (s .args .kept .now) (m .kept) (m .a) (m .key) (m .children) (m .inv .1) lt (w .last .1 .0) (w .result) g)
 
 visit-add-key-2 : (t : ℕ) → visit-lts.Need-add-key-2 (visit-calls t) (visit-at t) visit.Post visit-Inv-loop visit-μ-loop
 visit-add-key-2 t c = let s = c .before .before .before .before .before .before .before .before .before .before .before .before .before .before .before .before .before .before .before in
     let m = c .before .before .before .before .before .before .before .before .loop in
-    record { fits = turning.child-fits (s .args .desk) (s .args .costs) (s .args .n) (s .args .numbers .now) (contextOf (s .args .here .key)) (s .args .here) (s .args .at) (s .pre .1 .1) (c .before .before .before .before .before .before .before .before .before .before .before .before .if2 .left) (s .args .kept .now) (m .kept) (m .a) (m .key) (m .kids) (m .inv .1) (c .before .before .before .before .before .before .if3 .taken) }
+    record { fits = turning.child-fits (s .args .desk) (s .args .costs) (s .args .n) (s .args .numbers .now) (contextOf (s .args .here .key)) (s .args .here) (s .args .at) (s .pre .1 .1) (c .before .before .before .before .before .before .before .before .before .before .before .before .if2 .left) (s .args .kept .now) (m .kept) (m .a) (m .key) (m .children) (m .inv .1) (c .before .before .before .before .before .before .if3 .taken) }
 
 visit-add-a : (t : ℕ) → visit-lts.Need-add-a (visit-calls t) (visit-at t) visit.Post visit-Inv-loop visit-μ-loop
 visit-add-a t c = omega (arith, c .before .before .before .before .before .before .if3 .taken)
@@ -167,7 +169,7 @@ visit-loop-again t c = let s = c .before .before .before .before .before .before
     let z = c .before .before .before .before .before .before .before .before .before .before .before .before .if2 .left in
     let lt = c .before .before .before .before .before .before .if3 .taken in
     let w = c .before .before .before .visit in
-    (w .kept .1 .0 ∙ m .inv .0, turning.turn-next (s .args .desk) (s .args .costs) (s .args .n) (s .args .numbers .now) (contextOf (s .args .here .key)) (s .args .here) (s .args .at) (s .pre .1 .1) z (s .args .kept .now) (m .kept) (m .a) (m .key) (m .kids) (m .inv .1) lt (w .last .1 .0) (w .result) (visit-gave t (c .before .before .before)) (c .and-child .result) (c .and-child .ensures))
+    (w .kept .1 .0 ∙ m .inv .0, turning.turn-next (s .args .desk) (s .args .costs) (s .args .n) (s .args .numbers .now) (contextOf (s .args .here .key)) (s .args .here) (s .args .at) (s .pre .1 .1) z (s .args .kept .now) (m .kept) (m .a) (m .key) (m .children) (m .inv .1) lt (w .last .1 .0) (w .result) (visit-gave t (c .before .before .before)) (c .and-child .result) (c .and-child .ensures))
 
 visit-split-mark-requires : (t : ℕ) → visit-lts.Need-split-mark-requires (visit-calls t) (visit-at t) visit.Post visit-Inv-loop visit-μ-loop
 visit-split-mark-requires t c κs = let s = c .before .before .before .before .before .before .before .before .before .before .before .before .before in
@@ -181,7 +183,7 @@ visit-as-split-requires : (t : ℕ) → visit-lts.Need-as-split-requires (visit-
 visit-as-split-requires t c κs = let s = c .before .before .before .before .before .before .before .before .before .before .before .before .before .before in
     let m = c .before .before .before .loop in (
       visiting.own-small (s .args .desk) (s .args .costs) (s .args .n) (s .args .numbers .now) (contextOf (s .args .here .key)) (s .args .here) (s .args .at) (s .pre .1 .1) (visit-on t (c .before .before .before .before .before .before .before .before .before .before)) (c .before .before .before .before .before .before .before .before .before .losses-at .result) (c .before .before .before .before .before .before .before .before .before .losses-at .ensures),
-      turning.rows-small (s .args .desk) (s .args .costs) (s .args .n) (s .args .numbers .now) (contextOf (s .args .here .key)) (s .args .here) (s .args .at) (s .pre .1 .1) (c .before .before .before .before .before .before .before .if2 .left) (visit-on t (c .before .before .before .before .before .before .before .before .before .before)) (s .args .kept .now) (m .kept) (m .a) (m .key) (m .kids) (m .inv .1) (c .before .if3 .left),
+      turned.rows-small (s .args .desk) (s .args .costs) (s .args .n) (s .args .numbers .now) (contextOf (s .args .here .key)) (s .args .here) (s .args .at) (s .pre .1 .1) (c .before .before .before .before .before .before .before .if2 .left) (visit-on t (c .before .before .before .before .before .before .before .before .before .before)) (s .args .kept .now) (m .kept) (m .a) (m .key) (m .children) (m .inv .1) (c .before .if3 .left),
     )
 
 visit-same-length-2 : (t : ℕ) → visit-lts.Need-same-length-2 (visit-calls t) (visit-at t) visit.Post visit-Inv-loop visit-μ-loop
@@ -192,7 +194,7 @@ visit-returns-3 t c = let s = c .before .before .before .before .before .before 
     let m = c .before .before .before .before .loop in
     let o = c .before .before .before .before .before .before .before .before .before .before .losses-at in
     let on = visit-on t (c .before .before .before .before .before .before .before .before .before .before .before) in
-    turning.turns-end (s .args .desk) (s .args .costs) (s .args .n) (s .args .numbers .now) (contextOf (s .args .here .key)) (s .args .here) (s .args .at) (s .pre .1 .1) (c .before .before .before .before .before .before .before .before .if2 .left) on (s .args .kept .now) (m .kept) (m .a) (m .key) (m .kids) (m .inv .1) (c .before .before .if3 .left) (o .result) (visiting.own-losses (s .args .desk) (s .args .costs) (s .args .n) (s .args .numbers .now) (contextOf (s .args .here .key)) (s .args .here) (s .args .at) (s .pre .1 .1) on (o .result) (o .ensures))
+    turned.turns-end (s .args .desk) (s .args .costs) (s .args .n) (s .args .numbers .now) (contextOf (s .args .here .key)) (s .args .here) (s .args .at) (s .pre .1 .1) (c .before .before .before .before .before .before .before .before .if2 .left) on (s .args .kept .now) (m .kept) (m .a) (m .key) (m .children) (m .inv .1) (c .before .before .if3 .left) (o .result) (visiting.own-losses (s .args .desk) (s .args .costs) (s .args .n) (s .args .numbers .now) (contextOf (s .args .here .key)) (s .args .here) (s .args .at) (s .pre .1 .1) on (o .result) (o .ensures))
     (c .before .split-mark .result) (c .before .split-mark .ensures) (omega (arith, m .inv .0, s .pre .1 .0)) (c .as-split .result) (c .as-split .ensures)
 
 pub +visit-spec : {M : Type 1} → statement M
@@ -215,7 +217,7 @@ pub +visit-spec : {M : Type 1} → statement M
     (visit-add-none-yet t)
     (visit-none-yet-requires t)
     (visit-loop-holds t)
-    (visit-sub-t23 t)
+    (visit-sub-left t)
     (visit-visit-requires t)
     (visit-and-child-requires t)
     (visit-add-key-2 t)

@@ -72,11 +72,11 @@ write-from-add-key t c = let s = c .before .before .before .before .before .befo
 write-from-loop-holds : (t : ℕ) → write-from-lts.Need-loop-holds (write-from-calls t) (write-from-at t) write-from.Post write-from-Inv-loop write-from-μ-loop
 write-from-loop-holds t c = let s = c .before .before .before .before .before .before .before .before .before .before .before .before .before .before in let x = s .args in let h = c .before .before .before .before .before .before .before .write-here in (refl, onward.onward-begin (x .desk) (x .costs) (x .n) (x .numbers .now) (x .kept .now) (length (x .sheet .now)) (contextOf (x .spot .key)) (x .spot) (x .to) (s .pre .1) (write-from-more t (c .before .before)) (h .result .way) (h .result .to) (h .last .1 .1 .1 .1 .0))
 
-write-from-sub-t23 : (t : ℕ) → write-from-lts.Need-sub-t23 (write-from-calls t) (write-from-at t) write-from.Post write-from-Inv-loop write-from-μ-loop
-write-from-sub-t23 t c = omega (arith, write-from-more t (c .before .before .before .before .before .before))
+write-from-sub-left : (t : ℕ) → write-from-lts.Need-sub-left (write-from-calls t) (write-from-at t) write-from.Post write-from-Inv-loop write-from-μ-loop
+write-from-sub-left t c = omega (arith, write-from-more t (c .before .before .before .before .before .before))
 
-write-from-mul-t24 : (t : ℕ) → write-from-lts.Need-mul-t24 (write-from-calls t) (write-from-at t) write-from.Post write-from-Inv-loop write-from-μ-loop
-write-from-mul-t24 t c = let s = c .before .before .before .before .before .before .before .before .before .before .before .before .before .before .before .before .before .before .before in let x = s .args in record { fits = onward.power-fits (x .desk) (x .costs) (x .n) (x .numbers .now) (x .kept .now) (length (x .sheet .now)) (contextOf (x .spot .key)) (x .spot) (x .to) (s .pre .1) (write-from-more t (c .before .before .before .before .before .before .before)) }
+write-from-mul-power : (t : ℕ) → write-from-lts.Need-mul-power (write-from-calls t) (write-from-at t) write-from.Post write-from-Inv-loop write-from-μ-loop
+write-from-mul-power t c = let s = c .before .before .before .before .before .before .before .before .before .before .before .before .before .before .before .before .before .before .before in let x = s .args in record { fits = onward.power-fits (x .desk) (x .costs) (x .n) (x .numbers .now) (x .kept .now) (length (x .sheet .now)) (contextOf (x .spot .key)) (x .spot) (x .to) (s .pre .1) (write-from-more t (c .before .before .before .before .before .before .before)) }
 
 write-from-write-from-requires : (t : ℕ) → write-from-lts.Need-write-from-requires (write-from-calls t) (write-from-at t) write-from.Post write-from-Inv-loop write-from-μ-loop
 write-from-write-from-requires t c κs = let s = c .before .before .before .before .before .before .before .before .before .before .before .before .before .before .before .before .before .before .before .before in let x = s .args in let h = c .before .before .before .before .before .before .before .before .before .before .before .before .before .write-here in let m = c .before .before .before .before .before .loop in
@@ -128,8 +128,8 @@ pub +write-from-spec : {M : Type 1} → statement M
     (write-from-returns t)
     (write-from-add-key t)
     (write-from-loop-holds t)
-    (write-from-sub-t23 t)
-    (write-from-mul-t24 t)
+    (write-from-sub-left t)
+    (write-from-mul-power t)
     (write-from-write-from-requires t)
     (write-from-add-key-2 t)
     (write-from-add-code t)

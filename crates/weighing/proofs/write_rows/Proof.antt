@@ -12,8 +12,8 @@ use Rattle.weighing.proofs.write_rows.Tie as tie
 costs-of-requires : tie.Need-costs-of-requires
 costs-of-requires c κs = search needs
 
-mul-t9 : tie.Need-mul-t9
-mul-t9 c = search needs
+mul-key : tie.Need-mul-key
+mul-key c = search needs
 
 write-from-requires : tie.Need-write-from-requires
 write-from-requires c κs =
@@ -44,4 +44,4 @@ returns c =
 
 pub write-rows-spec : {M : Type 1} → statement M
 write-rows-spec =
-    tie.close (tie.spec costs-of-requires mul-t9 write-from-requires same-length returns)
+    tie.close (tie.spec costs-of-requires mul-key write-from-requires same-length returns)
