@@ -9,10 +9,10 @@ use lib.Dec.{eqb}
 use lib.ListN.{length, take, drop, getD, set, replicate, length-drop}
 use lib.Seq.{drop-set-add, drop-set-lt, take-set-lt, take-set-le, getD-drop, getD-take, getD-set-same, getD-set-other, length-take-le}
 use Rattle.numbers.specs.Limits.{mostSymbols}
-use Rattle.numbers.specs.Sum.{one}
+use Rattle.numbers.specs.Sum.{one, sum}
 use Rattle.numbers.proofs.Tests.{choose}
 use Rattle.numbers.proofs.Orders.{less, same, more, order}
-use Rattle.contexts.specs.Sitting.{Sample, first, second, sameSample}
+use Rattle.contexts.specs.Sitting.{Sample, first, second, sameSample, sumOf}
 use Rattle.records.specs.Records.{width, key, startOf, countsOf, blank, lookup}
 use Rattle.records.specs.Held.{held, countAt, Rising, Wide}
 use Rattle.records.specs.Bumped.{cellOf, raised, bumped}
@@ -79,15 +79,20 @@ cell-within second a h = omega arith
 
 -- ---- under a key
 
-no-count : (n b : ℕ) → _≡_ {A = ℕ} (getD (replicate n 0) b 0) 0
-no-count zero b = refl
-no-count (suc n) zero = refl
-no-count (suc n) (suc b) = no-count n b
+pub zeros-at : (n b : ℕ) → _≡_ {A = ℕ} (getD (replicate n 0) b 0) 0
+zeros-at zero b = refl
+zeros-at (suc n) zero = refl
+zeros-at (suc n) (suc b) = zeros-at n b
 
 -- a blank record has no count, so a key that no record has stands for none
 pub count-blank : (i : Sample) (b k : ℕ) → getD (countsOf i (blank k)) b 0 ≡ 0
-count-blank first b k = no-count 8 b
-count-blank second b k = no-count 8 b
+count-blank first b k = zeros-at 8 b
+count-blank second b k = zeros-at 8 b
+
+pub total-blank : (i : Sample) (k : ℕ) → sumOf (countsOf i (blank k)) ≡ 0
+unfolding sum
+total-blank first k = refl
+total-blank second k = refl
 
 pub count-absent : (k : ℕ) (i : Sample) (b : ℕ) (rs : List (List ℕ)) → held k rs ≡ false → countAt k i b rs ≡ 0
 count-absent k i b rs h = rw (lookup-absent k rs h) (count-blank i b k)

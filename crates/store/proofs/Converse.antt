@@ -15,12 +15,13 @@ use Rattle.contexts.specs.Sitting.{Sample, first, second}
 use Rattle.contexts.proofs.Strings.{begins-take, context-more}
 use Rattle.contexts.proofs.KeyOrder.{Within, deskOf-key, contextOf-key}
 use Rattle.records.specs.Records.{key, keys, countsOf, rises, lookup}
+use Rattle.records.proofs.Rising.{apart-rises}
+use Rattle.records.proofs.Finding.{lookup-place}
 use Rattle.store.specs.Layout.{used, isOpen, symbolsAt, depthAt, sizeAt, slotsAt, recordsIn, eightSum, totalOf}
 use Rattle.store.specs.Sound.{below, eachSample, deskOk, heldBy, keyOk, quietFrom, countsOk, sampleOk, tableOk, parentOf, parentOk, recordOk, soundb}
 use Rattle.store.specs.Plain.{Open, ContextAt, recordFor, totalAt, recordAt, Sound}
 use Rattle.store.proofs.Many.{every-of, all-of, sample-of}
 use Rattle.store.proofs.Parts.{records-length}
-use Rattle.store.proofs.Rising.{apart-rises, lookup-at}
 use Rattle.store.proofs.Desks.{desk-shut, stands-desk}
 use Rattle.store.proofs.Passing.{passes}
 use Rattle.store.proofs.Standing.{slots-long}
@@ -108,7 +109,7 @@ module _ (s : List ℕ) (h : Sound s) where
   record-at : T (rises 0 (keys (recordsIn s))) → (j : ℕ) → j < length (recordsIn s) → T (recordOk s (recordsIn s) (recordAt s j))
   record-at up j l =
       let n = h .each-counts j (inside j l) in
-      let own : recordFor s (n .desk) (n .context) ≡ recordAt s j = ap (λ (k : ℕ). lookup k (recordsIn s)) (sym (n .under-key)) ∙ lookup-at 0 (recordsIn s) j up l in
+      let own : recordFor s (n .desk) (n .context) ≡ recordAt s j = ap (λ (k : ℕ). lookup k (recordsIn s)) (sym (n .under-key)) ∙ lookup-place 0 j (recordsIn s) up l in
       record-passes (recordAt s j) (n .desk) (n .context) (n .at-open) (n .is-context) (n .under-key) own (n .seen)
 
 -- THEOREM. A store that meets document 01's conditions, and what the test asks beyond them, passes the test

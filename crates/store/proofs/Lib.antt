@@ -2,7 +2,6 @@ pub mod Many
 pub mod Strings
 pub mod Digits
 pub mod Parents
-pub mod Rising
 pub mod Marks
 pub mod Walking
 pub mod Climbing

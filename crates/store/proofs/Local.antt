@@ -1,29 +1,30 @@
 -- A desk's meaning depends on its own numbers in the header and its own records alone. Assumes nothing.
-use mathlib.Core.Path.{_≡_, sym, ap, ap₂, _∙_, subst, fun-ext}
+use mathlib.Core.Path.{_≡_, sym, ap₂, _∙_, subst, fun-ext}
 use mathlib.Core.Bool.{true, cond}
 use mathlib.Core.List.{List}
 use Prim.Native.Nat.{ℕ, min, _+_, _≤_, _<_}
 use native.Mathlib.Omega.{arith}
+use borrow.Author.Tests.{eq-eqb}
 use lib.Dec.{T, eqb}
 use lib.ListN.{length, take, drop, getD}
 use lib.Seq.{ext-getD, getD-take, getD-drop}
 use Rattle.numbers.specs.Limits.{mostSymbols, deepest, desks}
 use Rattle.numbers.proofs.Tests.{T?, is-false}
-use Rattle.numbers.proofs.Orders.{eq→eqb}
 use Rattle.contexts.specs.Context.{isContext}
 use Rattle.contexts.specs.Keys.{keyOf, deskOf}
 use Rattle.contexts.specs.Sitting.{Sample, first, second}
 use Rattle.contexts.proofs.Strings.{context-more}
 use Rattle.contexts.proofs.KeyOrder.{Within, deskOf-key}
 use Rattle.records.specs.Records.{lookup}
+use Rattle.records.specs.Held.{keep, ofDesk}
+use Rattle.records.proofs.Keeping.{lookup-local}
 use Rattle.replay.specs.Room.{opened}
-use Rattle.store.specs.Layout.{headerSize, deskStart, field, recentField, symbolsAt, depthAt, sizeAt, slotsAt, recordsIn, countIn, keep, ofDesk}
+use Rattle.store.specs.Layout.{headerSize, deskStart, field, recentField, symbolsAt, depthAt, sizeAt, slotsAt, recordsIn, countIn}
 use Rattle.store.specs.Sound.{soundb}
 use Rattle.store.specs.Plain.{Open}
 use Rattle.store.specs.Meaning.{openingAt, progressAt, deskAt}
 use Rattle.store.proofs.Passing.{passed, desk-passed}
 use Rattle.store.proofs.Standing.{slots-long}
-use Rattle.store.proofs.Keeping.{keep-lookup}
 use Rattle.store.proofs.Fitting.{desk-opened, desk-closed, open?}
 
 -- two stores have one desk's numbers and records
@@ -57,11 +58,7 @@ module _ (s t : List ℕ) (d : ℕ) (e : SameDesk s t d) where
 
   -- a context of the desk has the same record in both
   same-record : (c : List ℕ) → Within c → lookup (keyOf d c) (recordsIn s) ≡ lookup (keyOf d c) (recordsIn t)
-  same-record c w =
-      let own : T (ofDesk d (keyOf d c)) = eq→eqb (deskOf (keyOf d c)) d (deskOf-key d c w) in
-      sym (keep-lookup (ofDesk d) (keyOf d c) (recordsIn s) own)
-      ∙ ap (lookup (keyOf d c)) (e .kept)
-      ∙ keep-lookup (ofDesk d) (keyOf d c) (recordsIn t) own
+  same-record c w = lookup-local (ofDesk d) (keyOf d c) (recordsIn s) (recordsIn t) (e .kept) (eq-eqb (deskOf (keyOf d c)) d (deskOf-key d c w))
 
   same-count : symbolsAt s d ≤ mostSymbols → depthAt s d ≤ deepest → (i : Sample) (c : List ℕ) (a : ℕ) → progressAt s d .count i c a ≡ progressAt t d .count i c a
   same-count most deep i c a =

@@ -13,13 +13,14 @@ use Rattle.numbers.proofs.Tests.{of-true}
 use Rattle.contexts.specs.Keys.{deskOf}
 use Rattle.contexts.specs.Sitting.{first, second}
 use Rattle.records.specs.Records.{width, records, key}
-use Rattle.store.specs.Layout.{headerSize, totalOf, keep, ofDesk}
+use Rattle.records.specs.Held.{keep, ofDesk}
+use Rattle.records.proofs.Parts.{length-parts}
+use Rattle.records.proofs.Counting.{zeros-at}
+use Rattle.store.specs.Layout.{headerSize, totalOf}
 use Rattle.store.specs.Sound.{every, heldBy, deskTest}
 use Rattle.store.specs.Walk.{lenOf, walk, stepOk, after, marked, start, tallyOk, passb}
 use Rattle.store.proofs.Many.{every-cong}
-use Rattle.store.proofs.Parts.{parts-length}
 use Rattle.store.proofs.Loops.{cons-at, none-at}
-use Rattle.store.proofs.Rising.{zeros-at}
 use Rattle.store.proofs.Walking.{step-desk}
 
 -- ---- one record, and the others
@@ -88,7 +89,7 @@ turn-start s body n h b f = record {
 
 module _ (s body : List ℕ) (n : ℕ) (p q tally : List ℕ) (lo i : ℕ) (t : Turn s body n p q tally lo i) where
   inside-records : i < n → i < length (records n body)
-  inside-records h = rw (parts-length width n body) h
+  inside-records h = rw (length-parts width n body) h
 
   -- the records before have passed, and so has this one
   pub turn-next : i < n → (r : List ℕ) → r ≡ getD (records n body) i []
@@ -152,7 +153,7 @@ module _ (s body : List ℕ) (n : ℕ) (p q tally : List ℕ) (lo i : ℕ) (t : 
   pub turn-end : i ≡ n → every desks (tallyOk s tally) ≡ passb s (records n body)
   unfolding passb
   turn-end e =
-      let last : i ≡ length (records n body) = e ∙ sym (parts-length width n body) in
+      let last : i ≡ length (records n body) = e ∙ sym (length-parts width n body) in
       let done : walk s 0 start start (records n body) ≡ true = sym (t .same) ∙ walk-end (records n body) i s lo p q last in
       let many : (d : ℕ) → d < desks → getD tally d 0 ≡ heldBy d (records n body) = λ d u. omega (arith, t .tallied d u, held-end (records n body) i d last) in
       rw done (every-cong desks (λ d u. ap (deskTest s d) (many d u)))

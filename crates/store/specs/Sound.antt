@@ -11,7 +11,8 @@ use Rattle.contexts.specs.Context.{isContext}
 use Rattle.contexts.specs.Keys.{keyOf, deskOf, contextOf}
 use Rattle.contexts.specs.Sitting.{Sample, first, second}
 use Rattle.records.specs.Records.{key, keys, countsOf, rises, lookup}
-use Rattle.store.specs.Layout.{storeSize, room, used, isOpen, symbolsAt, depthAt, reserveAt, sizeAt, slotsAt, recordsIn, eightSum, totalOf, keep, ofDesk}
+use Rattle.records.specs.Held.{keep, ofDesk}
+use Rattle.store.specs.Layout.{storeSize, room, used, isOpen, symbolsAt, depthAt, reserveAt, sizeAt, slotsAt, recordsIn, eightSum, totalOf}
 
 -- ---- tests of many
 
