@@ -13,7 +13,7 @@ use Rattle.numbers.specs.Sum.{one, sum}
 use Rattle.numbers.proofs.Tests.{choose}
 use Rattle.numbers.proofs.Orders.{less, same, more, order}
 use Rattle.contexts.specs.Sitting.{Sample, first, second, sameSample, sumOf}
-use Rattle.records.specs.Records.{width, key, startOf, countsOf, blank, lookup}
+use Rattle.records.specs.Records.{width, key, startOf, countsOf, countOf, blank, lookup}
 use Rattle.records.specs.Held.{held, countAt, Rising, Wide}
 use Rattle.records.specs.Bumped.{cellOf, raised, bumped}
 use Rattle.records.proofs.Finding.{lookup-absent}
@@ -58,7 +58,7 @@ length-counts second r e = length-take-le mostSymbols (drop 9 r) (rw (length-dro
 
 -- THEOREM. A raised record has one more of that symbol in that sample, and every other count as before
 pub count-raised : (i j : Sample) (a b : ℕ) (r : List ℕ) → a < mostSymbols → length r ≡ width
-    → getD (countsOf j (raised (cellOf i a) r)) b 0 ≡ getD (countsOf j r) b 0 + one (sameSample i j && eqb a b)
+    → countOf j (raised (cellOf i a) r) b ≡ countOf j r b + one (sameSample i j && eqb a b)
 count-raised i j a b r h e = rw (counts-raised i j a r h) (go (sameSample i j))
   where
     go : (t : Bool) → getD (cond t (raised a (countsOf j r)) (countsOf j r)) b 0 ≡ getD (countsOf j r) b 0 + one (t && eqb a b)
@@ -66,7 +66,7 @@ count-raised i j a b r h e = rw (counts-raised i j a r h) (go (sameSample i j))
     go false = omega arith
 
 -- a count by its cell
-pub count-cell : (i : Sample) (a : ℕ) (r : List ℕ) → a < mostSymbols → getD (countsOf i r) a 0 ≡ getD r (cellOf i a) 0
+pub count-cell : (i : Sample) (a : ℕ) (r : List ℕ) → a < mostSymbols → countOf i r a ≡ getD r (cellOf i a) 0
 count-cell i a r h = getD-take mostSymbols (drop (startOf i) r) a 0 h ∙ getD-drop (startOf i) r a 0
 
 pub cell-past : (i : Sample) (a : ℕ) → 1 ≤ cellOf i a
@@ -85,7 +85,7 @@ zeros-at (suc n) zero = refl
 zeros-at (suc n) (suc b) = zeros-at n b
 
 -- a blank record has no count, so a key that no record has stands for none
-pub count-blank : (i : Sample) (b k : ℕ) → getD (countsOf i (blank k)) b 0 ≡ 0
+pub count-blank : (i : Sample) (b k : ℕ) → countOf i (blank k) b ≡ 0
 count-blank first b k = zeros-at 8 b
 count-blank second b k = zeros-at 8 b
 
@@ -107,6 +107,6 @@ pub count-bumped : (k k′ : ℕ) (i j : Sample) (a b : ℕ) (rs : List (List �
     → countAt k′ j b (bumped k i a rs) ≡ countAt k′ j b rs + one (eqb k k′ && (sameSample i j && eqb a b))
 count-bumped k k′ i j a b rs h w up = rw (lookup-bumped (cellOf i a) (cell-past i a) k k′ rs up) (go (eqb k k′))
   where
-    go : (t : Bool) → getD (countsOf j (cond t (raised (cellOf i a) (lookup k′ rs)) (lookup k′ rs))) b 0 ≡ getD (countsOf j (lookup k′ rs)) b 0 + one (t && (sameSample i j && eqb a b))
+    go : (t : Bool) → countOf j (cond t (raised (cellOf i a) (lookup k′ rs)) (lookup k′ rs)) b ≡ countOf j (lookup k′ rs) b + one (t && (sameSample i j && eqb a b))
     go true = count-raised i j a b (lookup k′ rs) h (wide-lookup k′ rs w)
     go false = omega arith

@@ -14,7 +14,7 @@ use Rattle.contexts.specs.Context.{begins}
 use Rattle.contexts.specs.Keys.{keyOf}
 use Rattle.contexts.specs.Sitting.{Sample, sameSample}
 use Rattle.contexts.proofs.KeyOrder.{Within, eqb-key}
-use Rattle.records.specs.Records.{countsOf, lookup}
+use Rattle.records.specs.Records.{countOf, lookup}
 use Rattle.records.specs.Held.{held, countAt, Rising, Wide}
 use Rattle.records.specs.Bumped.{cellOf, raised}
 use Rattle.records.specs.Fed.{fedTo, fed}
@@ -106,7 +106,7 @@ module _ (d : ℕ) (r : List ℕ) (cr : Within r) (e : ℕ) (s : List ℕ) (cs :
     count-fed j b rs h w up =
         rw (lookup-fed rs up, ← regroup (eqb d e) (begins s r) (sameSample i j) (eqb a b)) (go (eqb d e && begins s r))
       where
-        go : (t : Bool) → getD (countsOf j (cond t (raised (cellOf i a) (lookup (keyOf e s) rs)) (lookup (keyOf e s) rs))) b 0
+        go : (t : Bool) → countOf j (cond t (raised (cellOf i a) (lookup (keyOf e s) rs)) (lookup (keyOf e s) rs)) b
             ≡ countAt (keyOf e s) j b rs + one (t && (sameSample i j && eqb a b))
         go true = count-raised i j a b (lookup (keyOf e s) rs) h (wide-lookup (keyOf e s) rs w)
         go false = omega arith

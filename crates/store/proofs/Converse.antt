@@ -11,13 +11,13 @@ use Rattle.numbers.proofs.Tests.{T?, both, or-left, or-right, of-true}
 use Rattle.numbers.proofs.Orders.{less, same, more, order, eq→eqb}
 use Rattle.contexts.specs.Context.{isContext}
 use Rattle.contexts.specs.Keys.{keyOf, deskOf, contextOf}
-use Rattle.contexts.specs.Sitting.{Sample, first, second}
+use Rattle.contexts.specs.Sitting.{Sample, first, second, sumOf}
 use Rattle.contexts.proofs.Strings.{begins-take, context-more}
 use Rattle.contexts.proofs.KeyOrder.{Within, deskOf-key, contextOf-key}
 use Rattle.records.specs.Records.{key, keys, countsOf, rises, lookup}
 use Rattle.records.proofs.Rising.{apart-rises}
 use Rattle.records.proofs.Finding.{lookup-place}
-use Rattle.store.specs.Layout.{used, isOpen, symbolsAt, depthAt, sizeAt, slotsAt, recordsIn, eightSum, totalOf}
+use Rattle.store.specs.Layout.{used, isOpen, symbolsAt, depthAt, sizeAt, slotsAt, recordsIn, totalOf}
 use Rattle.store.specs.Sound.{below, eachSample, deskOk, heldBy, keyOk, quietFrom, countsOk, sampleOk, tableOk, parentOf, parentOk, recordOk, soundb}
 use Rattle.store.specs.Plain.{Open, ContextAt, recordFor, totalAt, recordAt, Sound}
 use Rattle.store.proofs.Many.{every-of, all-of, sample-of}
@@ -26,7 +26,7 @@ use Rattle.store.proofs.Desks.{desk-shut, stands-desk}
 use Rattle.store.proofs.Passing.{passes}
 use Rattle.store.proofs.Standing.{slots-long}
 
-stands-counts : (A n : ℕ) (part : List ℕ) → ((a : ℕ) → A ≤ a → getD part a 0 ≡ 0) → eightSum part ≤ n → T (countsOk A n part)
+stands-counts : (A n : ℕ) (part : List ℕ) → ((a : ℕ) → A ≤ a → getD part a 0 ≡ 0) → sumOf part ≤ n → T (countsOk A n part)
 unfolding countsOk quietFrom
 stands-counts A n part quiet within =
     both (quietFrom A part) _
@@ -35,7 +35,7 @@ stands-counts A n part quiet within =
       | same e ↦ or-right (ltb a A) (eqb (getD part a 0) 0) (eq→eqb (getD part a 0) 0 (quiet a (omega arith)))
       | more o ↦ or-right (ltb a A) (eqb (getD part a 0) 0) (eq→eqb (getD part a 0) 0 (quiet a (omega arith)))
     ]))
-    (le→leb (eightSum part) n within)
+    (le→leb (sumOf part) n within)
 
 module _ (s : List ℕ) (h : Sound s) where
   inside : (j : ℕ) → j < length (recordsIn s) → j < used s

@@ -17,12 +17,12 @@ use Rattle.contexts.specs.Keys.{keyOf, deskOf, contextOf}
 use Rattle.contexts.specs.Sitting.{Sample, first, second, totalIn, isHeld, contextsHeld}
 use Rattle.contexts.proofs.Totalling.{total-within}
 use Rattle.contexts.proofs.KeyOrder.{deskOf-key}
-use Rattle.records.specs.Records.{key}
+use Rattle.records.specs.Records.{key, countOf}
 use Rattle.records.specs.Held.{held, keep, ofDesk}
 use Rattle.records.proofs.Finding.{lookup-absent, lookup-held}
 use Rattle.records.proofs.Counting.{total-blank}
 use Rattle.records.proofs.Keeping.{rises-keep, held-keep}
-use Rattle.store.specs.Layout.{symbolsAt, depthAt, recordsIn, countIn, totalOf}
+use Rattle.store.specs.Layout.{symbolsAt, depthAt, recordsIn, totalOf}
 use Rattle.store.specs.Sound.{heldBy, recordOk, soundb}
 use Rattle.store.specs.Plain.{Open, ContextAt, recordFor, totalAt}
 use Rattle.store.specs.Meaning.{sittingAt}
@@ -40,8 +40,8 @@ module _ (s : List ℕ) (h : Passed s) (d : ℕ) (o : Open s d) where
   -- N(c) is the total in the record of c
   pub total-context : (i : Sample) (c : List ℕ) → ContextAt s d c → totalIn (sittingAt s d) i c ≡ totalAt s d i c
   total-context i c x =
-      sum-cong (symbolsAt s d) {g = countIn i (recordFor s d c)} (λ a l. rw (is-true (isContext (symbolsAt s d) (depthAt s d) c) x))
-      ∙ sym (sum-past (symbolsAt s d) mostSymbols (countIn i (recordFor s d c)) (desk-passed s h d o .most) (context-counts s h d o c x i .quiet))
+      sum-cong (symbolsAt s d) {g = countOf i (recordFor s d c)} (λ a l. rw (is-true (isContext (symbolsAt s d) (depthAt s d) c) x))
+      ∙ sym (sum-past (symbolsAt s d) mostSymbols (countOf i (recordFor s d c)) (desk-passed s h d o .most) (context-counts s h d o c x i .quiet))
 
   own-desk : (c : List ℕ) → ContextAt s d c → ofDesk d (keyOf d c) ≡ true
   own-desk c x = eq-eqb (deskOf (keyOf d c)) d (deskOf-key d c (context-within s h d o c x))

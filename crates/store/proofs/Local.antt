@@ -16,10 +16,10 @@ use Rattle.contexts.specs.Sitting.{Sample, first, second}
 use Rattle.contexts.proofs.Strings.{context-more}
 use Rattle.contexts.proofs.KeyOrder.{Within, deskOf-key}
 use Rattle.records.specs.Records.{lookup}
-use Rattle.records.specs.Held.{keep, ofDesk}
+use Rattle.records.specs.Held.{countAt, keep, ofDesk}
 use Rattle.records.proofs.Keeping.{lookup-local}
 use Rattle.replay.specs.Room.{opened}
-use Rattle.store.specs.Layout.{headerSize, deskStart, field, recentField, symbolsAt, depthAt, sizeAt, slotsAt, recordsIn, countIn}
+use Rattle.store.specs.Layout.{headerSize, deskStart, field, recentField, symbolsAt, depthAt, sizeAt, slotsAt, recordsIn}
 use Rattle.store.specs.Sound.{soundb}
 use Rattle.store.specs.Plain.{Open}
 use Rattle.store.specs.Meaning.{openingAt, progressAt, deskAt}
@@ -63,10 +63,10 @@ module _ (s t : List ℕ) (d : ℕ) (e : SameDesk s t d) where
   same-count : symbolsAt s d ≤ mostSymbols → depthAt s d ≤ deepest → (i : Sample) (c : List ℕ) (a : ℕ) → progressAt s d .count i c a ≡ progressAt t d .count i c a
   same-count most deep i c a =
       go (T? (isContext (symbolsAt s d) (depthAt s d) c))
-      ∙ ap₂ (λ (A D : ℕ). cond (isContext A D c) (countIn i (lookup (keyOf d c) (recordsIn t)) a) 0) (e .fields 1 (omega arith)) (e .fields 2 (omega arith))
+      ∙ ap₂ (λ (A D : ℕ). cond (isContext A D c) (countAt (keyOf d c) i a (recordsIn t)) 0) (e .fields 1 (omega arith)) (e .fields 2 (omega arith))
     where
       go : Dec (T (isContext (symbolsAt s d) (depthAt s d) c))
-          → progressAt s d .count i c a ≡ cond (isContext (symbolsAt s d) (depthAt s d) c) (countIn i (lookup (keyOf d c) (recordsIn t)) a) 0
+          → progressAt s d .count i c a ≡ cond (isContext (symbolsAt s d) (depthAt s d) c) (countAt (keyOf d c) i a (recordsIn t)) 0
       go (yes x) = rw (same-record c (context-more (symbolsAt s d) mostSymbols (depthAt s d) deepest c most deep x))
       go (no n) = rw (is-false (isContext (symbolsAt s d) (depthAt s d) c) n)
 

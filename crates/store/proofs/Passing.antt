@@ -11,14 +11,14 @@ use Rattle.numbers.specs.Sum.{sum}
 use Rattle.numbers.proofs.Tests.{T?, both, left, right, or-rest, of-true, is-true, is-false}
 use Rattle.numbers.proofs.Orders.{less, same, more, order}
 use Rattle.contexts.specs.Keys.{keyOf, deskOf, contextOf}
-use Rattle.contexts.specs.Sitting.{Sample}
+use Rattle.contexts.specs.Sitting.{Sample, sumOf}
 use Rattle.contexts.proofs.Strings.{context-more}
 use Rattle.contexts.proofs.KeyOrder.{Within, deskOf-key, contextOf-key}
 use Rattle.records.specs.Records.{key, keys, countsOf, startOf, rises, blank}
 use Rattle.records.specs.Held.{held}
 use Rattle.records.proofs.Finding.{lookup-absent, lookup-held, key-lookup}
 use Rattle.records.proofs.Counting.{count-blank, total-blank}
-use Rattle.store.specs.Layout.{room, symbolsAt, depthAt, sizeAt, recordsIn, eightSum}
+use Rattle.store.specs.Layout.{room, symbolsAt, depthAt, sizeAt, recordsIn}
 use Rattle.store.specs.Sound.{every, all, eachSample, frameOk, deskOk, heldBy, reservedAt, keyOk, quietFrom, countsOk, sampleOk, tableOk, parentOk, recordOk, recordsOk, soundb}
 use Rattle.store.specs.Plain.{Open, ContextAt, recordFor}
 use Rattle.store.proofs.Many.{every-at, all-at, sample-at}
@@ -62,7 +62,7 @@ passes s h =
 
 pub record CountsStand (A n : ℕ) (part : List ℕ) : Type 0 where
   pub quiet : (a : ℕ) → A ≤ a → getD part a 0 ≡ 0
-  pub within : eightSum part ≤ n
+  pub within : sumOf part ≤ n
 
 counts-stand : (A n : ℕ) (part : List ℕ) → length part ≤ mostSymbols → T (countsOk A n part) → CountsStand A n part
 unfolding countsOk quietFrom
@@ -72,7 +72,7 @@ counts-stand A n part short t = record {
     | same e ↦ List·getD-eq-default part 0 (omega arith)
     | more l ↦ List·getD-eq-default part 0 (omega arith)
   ];
-  within = leb→le (eightSum part) n (right (quietFrom A part) _ t);
+  within = leb→le (sumOf part) n (right (quietFrom A part) _ t);
 }
 
 pub counts-short : (i : Sample) (r : List ℕ) → length (countsOf i r) ≤ mostSymbols

@@ -4,9 +4,8 @@ use mathlib.Core.List.{List}
 use Prim.Native.Nat.{ℕ, _+_, _*_}
 use lib.ListN.{take, drop, getD}
 use lib.Dec.{eqb}
-use Rattle.numbers.specs.Limits.{mostSymbols, deepest}
-use Rattle.numbers.specs.Sum.{sum}
-use Rattle.contexts.specs.Sitting.{Sample, first, second}
+use Rattle.numbers.specs.Limits.{deepest}
+use Rattle.contexts.specs.Sitting.{Sample, first, second, sumOf}
 use Rattle.records.specs.Records.{width, records, countsOf}
 
 -- how many numbers the header has
@@ -70,14 +69,6 @@ slotsAt s d i = take deepest (drop (deskStart d + recentField i) s)
 unfoldable pub recordsIn : List ℕ → List (List ℕ)
 recordsIn s = records (used s) (drop headerSize s)
 
--- a record's count of a symbol in a sample
-abbrev pub countIn : Sample → List ℕ → ℕ → ℕ
-countIn i r a = getD (countsOf i r) a 0
-
--- the sum of eight counts
-abbrev pub eightSum : List ℕ → ℕ
-eightSum part = sum mostSymbols (λ a. getD part a 0)
-
 -- N(s) of a record in a sample
 abbrev pub totalOf : Sample → List ℕ → ℕ
-totalOf i r = eightSum (countsOf i r)
+totalOf i r = sumOf (countsOf i r)

@@ -9,10 +9,10 @@ use Rattle.numbers.specs.Limits.{fewestSymbols, mostSymbols, deepest, longest, 
 use Rattle.numbers.specs.Sum.{sum}
 use Rattle.contexts.specs.Context.{isContext}
 use Rattle.contexts.specs.Keys.{keyOf, deskOf, contextOf}
-use Rattle.contexts.specs.Sitting.{Sample, first, second}
+use Rattle.contexts.specs.Sitting.{Sample, first, second, sumOf}
 use Rattle.records.specs.Records.{key, keys, countsOf, rises, lookup}
 use Rattle.records.specs.Held.{keep, ofDesk}
-use Rattle.store.specs.Layout.{storeSize, room, used, isOpen, symbolsAt, depthAt, reserveAt, sizeAt, slotsAt, recordsIn, eightSum, totalOf}
+use Rattle.store.specs.Layout.{storeSize, room, used, isOpen, symbolsAt, depthAt, reserveAt, sizeAt, slotsAt, recordsIn, totalOf}
 
 -- ---- tests of many
 
@@ -86,7 +86,7 @@ quietFrom A part = every mostSymbols (λ a. ltb a A || eqb (getD part a 0) 0)
 
 -- .. and their sum is at most n
 unfoldable pub countsOk : ℕ → ℕ → List ℕ → Bool
-countsOk A n part = quietFrom A part && leb (eightSum part) n
+countsOk A n part = quietFrom A part && leb (sumOf part) n
 
 -- a record's counts in a sample, by what its desk says
 abbrev pub sampleOk : List ℕ → List ℕ → Sample → Bool
