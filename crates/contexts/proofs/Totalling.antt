@@ -1,11 +1,10 @@
 -- Laws of sums over all strings up to a depth. Assumes nothing.
-use Prim.Native.Nat.{ℕ, zero, suc, _+_, _*_, _≤_, _<_}
+use Prim.Native.Nat.{ℕ, zero, suc, _+_, _*_, _≤_}
 use native.Mathlib.Nat.{le-refl, add-le-add, mul-le-mul}
 use native.Mathlib.Omega.{arith}
 use mathlib.Core.Path.{_≡_, refl, ap₂}
 use mathlib.Core.List.{List, [], _∷_}
 use lib.Dec.{T}
-use Rattle.numbers.specs.Sum.{sum}
 use Rattle.numbers.proofs.Sums.{sum-mono, sum-cong, sum-add, sum-zero, sum-same}
 use Rattle.contexts.specs.Context.{isContext}
 use Rattle.contexts.specs.Strings.{under, total, strings}

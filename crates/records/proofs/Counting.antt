@@ -2,16 +2,17 @@
 use mathlib.Core.Path.{_≡_, refl, sym, ap, _∙_}
 use mathlib.Core.Bool.{Bool, true, false, cond, _&&_}
 use mathlib.Core.List.{List, [], _∷_}
-use Prim.Native.Nat.{ℕ, zero, suc, _+_, _≤_, _<_}
+use Prim.Native.Nat.{ℕ, _+_, _≤_, _<_}
 use native.Mathlib.Omega.{arith}
 use borrow.Author.Tests.{eq-eqb, ne-eqb}
 use lib.Dec.{eqb}
-use lib.ListN.{length, take, drop, getD, set, replicate, length-drop}
-use lib.Seq.{drop-set-add, drop-set-lt, take-set-lt, take-set-le, getD-drop, getD-take, getD-set-same, getD-set-other, length-take-le}
+use lib.ListN.{length, take, drop, getD, set, length-drop}
+use lib.Seq.{drop-set-add, drop-set-lt, take-set-lt, take-set-le, getD-set-same, getD-set-other, length-take-le}
 use Rattle.numbers.specs.Limits.{mostSymbols}
 use Rattle.numbers.specs.Sum.{one, sum}
 use Rattle.numbers.proofs.Tests.{choose}
 use Rattle.numbers.proofs.Orders.{less, same, more, order}
+use Rattle.numbers.proofs.Lists.{getD-part, zeros-at}
 use Rattle.contexts.specs.Sitting.{Sample, first, second, sameSample, sumOf}
 use Rattle.records.specs.Records.{width, key, startOf, countsOf, countOf, blank, lookup}
 use Rattle.records.specs.Held.{held, countAt, Rising, Wide}
@@ -26,7 +27,7 @@ part-in : (s m x : ℕ) (r : List ℕ) → x < m → take m (drop s (raised (s +
 part-in s m x r h =
     ap (take m) (drop-set-add s r x (getD r (s + x) 0 + 1))
     ∙ take-set-lt m (drop s r) x (getD r (s + x) 0 + 1) h
-    ∙ ap (λ (v : ℕ). set (take m (drop s r)) x (v + 1)) (sym (getD-take m (drop s r) x 0 h ∙ getD-drop s r x 0))
+    ∙ ap (λ (v : ℕ). set (take m (drop s r)) x (v + 1)) (sym (getD-part m s r x 0 h))
 
 part-before : (s m c : ℕ) (r : List ℕ) → c < s → take m (drop s (raised c r)) ≡ take m (drop s r)
 part-before s m c r h = ap (take m) (drop-set-lt s r c (getD r c 0 + 1) h)
@@ -67,7 +68,7 @@ count-raised i j a b r h e = rw (counts-raised i j a r h) (go (sameSample i j))
 
 -- a count by its cell
 pub count-cell : (i : Sample) (a : ℕ) (r : List ℕ) → a < mostSymbols → countOf i r a ≡ getD r (cellOf i a) 0
-count-cell i a r h = getD-take mostSymbols (drop (startOf i) r) a 0 h ∙ getD-drop (startOf i) r a 0
+count-cell i a r h = getD-part mostSymbols (startOf i) r a 0 h
 
 pub cell-past : (i : Sample) (a : ℕ) → 1 ≤ cellOf i a
 cell-past first a = omega arith
@@ -78,11 +79,6 @@ cell-within first a h = omega arith
 cell-within second a h = omega arith
 
 -- ---- under a key
-
-pub zeros-at : (n b : ℕ) → _≡_ {A = ℕ} (getD (replicate n 0) b 0) 0
-zeros-at zero b = refl
-zeros-at (suc n) zero = refl
-zeros-at (suc n) (suc b) = zeros-at n b
 
 -- a blank record has no count, so a key that no record has stands for none
 pub count-blank : (i : Sample) (b k : ℕ) → countOf i (blank k) b ≡ 0

@@ -6,7 +6,7 @@ use Prim.Native.Nat.{ℕ, zero, suc, _+_, _≤_, _<_}
 use native.Mathlib.Omega.{arith}
 use borrow.Author.Tests.{lt-ltb, le-ltb, eq-eqb, ne-eqb}
 use lib.Dec.{eqb, ltb}
-use lib.ListN.{length, take, getD}
+use lib.ListN.{length, take}
 use Rattle.numbers.specs.Limits.{mostSymbols}
 use Rattle.numbers.specs.Sum.{one}
 use Rattle.numbers.proofs.Orders.{less, same, more, order}

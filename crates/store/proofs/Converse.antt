@@ -9,6 +9,7 @@ use lib.ListN.{length, getD}
 use Rattle.numbers.specs.Limits.{mostSymbols, deepest, desks}
 use Rattle.numbers.proofs.Tests.{T?, both, or-left, or-right, of-true}
 use Rattle.numbers.proofs.Orders.{less, same, more, order, eq→eqb}
+use Rattle.numbers.proofs.Every.{every-of, all-of}
 use Rattle.contexts.specs.Context.{isContext}
 use Rattle.contexts.specs.Keys.{keyOf, deskOf, contextOf}
 use Rattle.contexts.specs.Sitting.{Sample, first, second, sumOf}
@@ -20,7 +21,7 @@ use Rattle.records.proofs.Finding.{lookup-place}
 use Rattle.store.specs.Layout.{used, isOpen, symbolsAt, depthAt, sizeAt, slotsAt, recordsIn, totalOf}
 use Rattle.store.specs.Sound.{below, eachSample, deskOk, heldBy, keyOk, quietFrom, countsOk, sampleOk, tableOk, parentOf, parentOk, recordOk, soundb}
 use Rattle.store.specs.Plain.{Open, ContextAt, recordFor, totalAt, recordAt, Sound}
-use Rattle.store.proofs.Many.{every-of, all-of, sample-of}
+use Rattle.store.proofs.Many.{sample-of}
 use Rattle.store.proofs.Parts.{records-length}
 use Rattle.store.proofs.Desks.{desk-shut, stands-desk}
 use Rattle.store.proofs.Passing.{passes}

@@ -12,6 +12,7 @@ use Rattle.numbers.specs.Limits.{mostSymbols}
 use Rattle.numbers.specs.Sum.{one}
 use Rattle.numbers.proofs.Tests.{left, right, of-true, is-true, is-false}
 use Rattle.numbers.proofs.Sums.{sum-cong, sum-zero, sum-past}
+use Rattle.numbers.proofs.Every.{all-at}
 use Rattle.contexts.specs.Context.{isContext}
 use Rattle.contexts.specs.Keys.{keyOf, deskOf, contextOf}
 use Rattle.contexts.specs.Sitting.{Sample, first, second, totalIn, isHeld, contextsHeld}
@@ -21,15 +22,13 @@ use Rattle.records.specs.Records.{key, countOf}
 use Rattle.records.specs.Held.{held, keep, ofDesk}
 use Rattle.records.proofs.Finding.{lookup-absent, lookup-held}
 use Rattle.records.proofs.Counting.{total-blank}
-use Rattle.records.proofs.Keeping.{rises-keep, held-keep}
+use Rattle.records.proofs.Keeping.{rises-keep, keep-all, held-keep}
 use Rattle.store.specs.Layout.{symbolsAt, depthAt, recordsIn, totalOf}
 use Rattle.store.specs.Sound.{heldBy, recordOk, soundb}
 use Rattle.store.specs.Plain.{Open, ContextAt, recordFor, totalAt}
 use Rattle.store.specs.Meaning.{sittingAt}
-use Rattle.store.proofs.Many.{all-at}
 use Rattle.store.proofs.Climbing.{key-stands, table-seen}
 use Rattle.store.proofs.Passing.{Passed, passed, record-key, record-table, desk-passed, context-within, context-counts}
-use Rattle.store.proofs.Keeping.{keep-all}
 use Rattle.store.proofs.Totalling.{total-keys}
 
 -- no count where there is no context

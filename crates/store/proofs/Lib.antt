@@ -13,7 +13,6 @@ pub mod Turn
 pub mod Passing
 pub mod Standing
 pub mod Converse
-pub mod Keeping
 pub mod Totalling
 pub mod Holding
 pub mod Fitting

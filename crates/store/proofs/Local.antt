@@ -6,10 +6,11 @@ use Prim.Native.Nat.{ℕ, min, _+_, _≤_, _<_}
 use native.Mathlib.Omega.{arith}
 use borrow.Author.Tests.{eq-eqb}
 use lib.Dec.{T, eqb}
-use lib.ListN.{length, take, drop, getD}
-use lib.Seq.{ext-getD, getD-take, getD-drop}
+use lib.ListN.{length, take, getD}
+use lib.Seq.{ext-getD}
 use Rattle.numbers.specs.Limits.{mostSymbols, deepest, desks}
 use Rattle.numbers.proofs.Tests.{T?, is-false}
+use Rattle.numbers.proofs.Lists.{getD-part}
 use Rattle.contexts.specs.Context.{isContext}
 use Rattle.contexts.specs.Keys.{keyOf, deskOf}
 use Rattle.contexts.specs.Sitting.{Sample, first, second}
@@ -39,9 +40,6 @@ module _ (s t : List ℕ) (d : ℕ) (e : SameDesk s t d) where
   same-size first = e .fields 4 (omega arith)
   same-size second = e .fields 5 (omega arith)
 
-  slot-at : (u : List ℕ) (at j : ℕ) → j < deepest → getD (take deepest (drop at u)) j 0 ≡ getD u (at + j) 0
-  slot-at u at j l = getD-take deepest (drop at u) j 0 l ∙ getD-drop at u j 0
-
   same-slot : (i : Sample) (j : ℕ) → j < deepest → getD s (deskStart d + recentField i + j) 0 ≡ getD t (deskStart d + recentField i + j) 0
   same-slot first j l =
       let q : deskStart d + 6 + j ≡ deskStart d + (6 + j) = omega arith in
@@ -54,7 +52,7 @@ module _ (s t : List ℕ) (d : ℕ) (e : SameDesk s t d) where
   same-slots l i =
       let m = slots-long s d i l (e .long-before) in
       ext-getD 0 (slotsAt s d i) (slotsAt t d i) (m ∙ sym (slots-long t d i l (e .long-after)))
-      (λ j h. slot-at s (deskStart d + recentField i) j (omega arith) ∙ same-slot i j (omega arith) ∙ sym (slot-at t (deskStart d + recentField i) j (omega arith)))
+      (λ j h. getD-part deepest (deskStart d + recentField i) s j 0 (omega arith) ∙ same-slot i j (omega arith) ∙ sym (getD-part deepest (deskStart d + recentField i) t j 0 (omega arith)))
 
   -- a context of the desk has the same record in both
   same-record : (c : List ℕ) → Within c → lookup (keyOf d c) (recordsIn s) ≡ lookup (keyOf d c) (recordsIn t)

@@ -8,8 +8,10 @@ use lib.Dec.{T, ltb, eqb, leb→le, le→leb, ltb→lt, eqb→eq}
 use lib.ListN.{length, drop, getD, length-take, List·getD-eq-default}
 use Rattle.numbers.specs.Limits.{mostSymbols, deepest, desks}
 use Rattle.numbers.specs.Sum.{sum}
+use Rattle.numbers.specs.Every.{every, all}
 use Rattle.numbers.proofs.Tests.{T?, both, left, right, or-rest, of-true, is-true, is-false}
 use Rattle.numbers.proofs.Orders.{less, same, more, order}
+use Rattle.numbers.proofs.Every.{every-at, all-at}
 use Rattle.contexts.specs.Keys.{keyOf, deskOf, contextOf}
 use Rattle.contexts.specs.Sitting.{Sample, sumOf}
 use Rattle.contexts.proofs.Strings.{context-more}
@@ -19,9 +21,9 @@ use Rattle.records.specs.Held.{held}
 use Rattle.records.proofs.Finding.{lookup-absent, lookup-held, key-lookup}
 use Rattle.records.proofs.Counting.{count-blank, total-blank}
 use Rattle.store.specs.Layout.{room, symbolsAt, depthAt, sizeAt, recordsIn}
-use Rattle.store.specs.Sound.{every, all, eachSample, frameOk, deskOk, heldBy, reservedAt, keyOk, quietFrom, countsOk, sampleOk, tableOk, parentOk, recordOk, recordsOk, soundb}
+use Rattle.store.specs.Sound.{eachSample, frameOk, deskOk, heldBy, reservedAt, keyOk, quietFrom, countsOk, sampleOk, tableOk, parentOk, recordOk, recordsOk, soundb}
 use Rattle.store.specs.Plain.{Open, ContextAt, recordFor}
-use Rattle.store.proofs.Many.{every-at, all-at, sample-at}
+use Rattle.store.proofs.Many.{sample-at}
 use Rattle.store.proofs.Desks.{DeskStands, desk-stands}
 use Rattle.store.proofs.Whole.{Frame, frame, frame-of}
 

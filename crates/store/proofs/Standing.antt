@@ -10,6 +10,7 @@ use lib.ListN.{length, drop, getD, length-drop}
 use lib.Seq.{length-take-le}
 use Rattle.numbers.specs.Limits.{deepest, desks}
 use Rattle.numbers.proofs.Orders.{less, same, more, order}
+use Rattle.numbers.proofs.Every.{all-at}
 use Rattle.contexts.specs.Context.{begins}
 use Rattle.contexts.specs.Keys.{keyOf, deskOf, contextOf}
 use Rattle.contexts.specs.Sitting.{Sample, first, second}
@@ -19,7 +20,6 @@ use Rattle.records.proofs.Counting.{total-blank}
 use Rattle.store.specs.Layout.{headerSize, deskStart, used, symbolsAt, depthAt, slotsAt, recordsIn, totalOf}
 use Rattle.store.specs.Sound.{below, heldBy, parentOf, parentKey, recordOk, soundb}
 use Rattle.store.specs.Plain.{Open, ContextAt, recordFor, totalAt, Counts, recordAt, Sound}
-use Rattle.store.proofs.Many.{all-at}
 use Rattle.store.proofs.Strings.{none, some, oldest, parent-snoc, length-snoc, context-parent, begins-cut}
 use Rattle.store.proofs.Parts.{records-length}
 use Rattle.store.proofs.Desks.{DeskStands}

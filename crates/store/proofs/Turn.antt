@@ -9,18 +9,18 @@ use lib.Dec.{eqb}
 use lib.ListN.{length, drop, getD, set, replicate, length-set}
 use lib.Seq.{getD-set-same, getD-set-other}
 use Rattle.numbers.specs.Limits.{desks, mostRoom}
+use Rattle.numbers.specs.Every.{every}
 use Rattle.numbers.proofs.Tests.{of-true}
+use Rattle.numbers.proofs.Lists.{zeros-at, cons-at, none-at}
+use Rattle.numbers.proofs.Every.{every-cong}
 use Rattle.contexts.specs.Keys.{deskOf}
 use Rattle.contexts.specs.Sitting.{first, second}
 use Rattle.records.specs.Records.{width, records, key}
 use Rattle.records.specs.Held.{keep, ofDesk}
 use Rattle.records.proofs.Parts.{length-parts}
-use Rattle.records.proofs.Counting.{zeros-at}
 use Rattle.store.specs.Layout.{headerSize, totalOf}
-use Rattle.store.specs.Sound.{every, heldBy, deskTest}
+use Rattle.store.specs.Sound.{heldBy, deskTest}
 use Rattle.store.specs.Walk.{lenOf, walk, stepOk, after, marked, start, tallyOk, passb}
-use Rattle.store.proofs.Many.{every-cong}
-use Rattle.store.proofs.Loops.{cons-at, none-at}
 use Rattle.store.proofs.Walking.{step-desk}
 
 -- ---- one record, and the others

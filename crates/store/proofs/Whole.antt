@@ -8,13 +8,14 @@ use lib.Dec.{T, leb, leb→le, le→leb}
 use lib.ListN.{length, take, drop, length-drop}
 use Rattle.numbers.specs.Limits.{desks, mostRoom}
 use Rattle.numbers.specs.Sum.{sum}
+use Rattle.numbers.specs.Every.{every, all}
 use Rattle.numbers.proofs.Tests.{both, left, right, of-true}
+use Rattle.numbers.proofs.Every.{every-at}
 use Rattle.records.specs.Records.{keys, rises, width}
 use Rattle.records.proofs.Lent.{tail-lent}
 use Rattle.store.specs.Layout.{headerSize, storeSize, room, used, isOpen, symbolsAt, recordsIn}
-use Rattle.store.specs.Sound.{every, all, frameOk, deskOk, heldBy, reservedAt, recordOk, recordsOk, soundb}
+use Rattle.store.specs.Sound.{frameOk, deskOk, heldBy, reservedAt, recordOk, recordsOk, soundb}
 use Rattle.store.specs.Walk.{walk, start, passb}
-use Rattle.store.proofs.Many.{every-at}
 use Rattle.store.proofs.Desks.{desk-stands}
 use Rattle.store.proofs.Walking.{walk-is}
 use Rattle.store.proofs.Climbing.{fits-are}

@@ -1,30 +1,19 @@
 -- The soundness test: a test of the store's numbers, made of one test for each desk and one for each record. It reads the header and the
 -- records in use, and finds the record of a shorter context by its key. Assumes nothing.
 use mathlib.Core.Bool.{Bool, true, cond, _&&_, _||_}
-use mathlib.Core.List.{List, [], _∷_}
-use Prim.Native.Nat.{ℕ, zero, suc, _+_, _-_}
+use mathlib.Core.List.{List}
+use Prim.Native.Nat.{ℕ, _+_, _-_}
 use lib.ListN.{take, getD, length}
 use lib.Dec.{leb, ltb, eqb}
 use Rattle.numbers.specs.Limits.{fewestSymbols, mostSymbols, deepest, longest, desks, mostRoom}
 use Rattle.numbers.specs.Sum.{sum}
+use Rattle.numbers.specs.Every.{every, all}
 use Rattle.contexts.specs.Context.{isContext}
 use Rattle.contexts.specs.Keys.{keyOf, deskOf, contextOf}
 use Rattle.contexts.specs.Sitting.{Sample, first, second, sumOf}
 use Rattle.records.specs.Records.{key, keys, countsOf, rises, lookup}
 use Rattle.records.specs.Held.{keep, ofDesk}
 use Rattle.store.specs.Layout.{storeSize, room, used, isOpen, symbolsAt, depthAt, reserveAt, sizeAt, slotsAt, recordsIn, totalOf}
-
--- ---- tests of many
-
--- every number below n passes
-unfoldable pub every : ℕ → (ℕ → Bool) → Bool
-every zero f = true
-every (suc n) f = every n f && f n
-
--- every element of a list passes
-unfoldable pub all : {X : Type 0} → (X → Bool) → List X → Bool
-all f [] = true
-all f (x ∷ xs) = f x && all f xs
 
 -- both samples pass
 abbrev pub eachSample : (Sample → Bool) → Bool

@@ -6,11 +6,12 @@ use Prim.Native.Nat.{ℕ, _+_, _-_, _*_, _/_, _%_, _^_, _≤_}
 use lib.ListN.{length, getD, set, replicate}
 use lib.Dec.{leb, ltb, eqb}
 use Rattle.numbers.specs.Limits.{desks}
+use Rattle.numbers.specs.Every.{every}
 use Rattle.contexts.specs.Keys.{deskOf, deskSpan}
 use Rattle.contexts.specs.Sitting.{Sample, first, second}
 use Rattle.records.specs.Records.{width, key}
 use Rattle.store.specs.Layout.{isOpen, symbolsAt, depthAt, totalOf}
-use Rattle.store.specs.Sound.{every, tableOk, deskTest, deskOk}
+use Rattle.store.specs.Sound.{tableOk, deskTest, deskOk}
 
 -- ---- a key's digits
 
