@@ -12,6 +12,7 @@ use Rattle.numbers.specs.Limits.{mostSymbols, deepest}
 use Rattle.numbers.specs.Sum.{one, sum}
 use Rattle.numbers.proofs.Sums.{sum-longer}
 use Rattle.contexts.specs.Keys.{deskSpan, keyOf}
+use Rattle.contexts.proofs.Followed.{context-take}
 use Rattle.records.specs.Records.{width, records, lookup}
 use Rattle.records.specs.Held.{held, Rising}
 use Rattle.records.specs.Bumped.{cellOf, bumpedAt, Bumpable, Written}
@@ -20,7 +21,6 @@ use Rattle.records.proofs.Parts.{length-parts}
 use Rattle.records.proofs.Lent.{agree-later}
 use Rattle.records.proofs.Bumping.{length-bumped}
 use Rattle.records.proofs.Counting.{count-cell, cell-past, cell-within}
-use Rattle.records.proofs.Followed.{context-take}
 use Rattle.records.proofs.Feeding.{rising-fedTo, lookup-fedTo}
 use Rattle.records.proofs.Growing.{lacks, held-yet, length-fedTo}
 use Rattle.records.proofs.KeyWalk.{Walk, walk-start, walk-on}

@@ -14,12 +14,12 @@ use Rattle.contexts.specs.Context.{begins}
 use Rattle.contexts.specs.Keys.{keyOf}
 use Rattle.contexts.specs.Sitting.{Sample, sameSample}
 use Rattle.contexts.proofs.KeyOrder.{Within, eqb-key}
+use Rattle.contexts.proofs.Followed.{context-take, eqs-take, begins-all}
 use Rattle.records.specs.Records.{countOf, lookup}
 use Rattle.records.specs.Held.{held, countAt, Rising, Wide}
 use Rattle.records.specs.Bumped.{cellOf, raised}
 use Rattle.records.specs.Fed.{fedTo, fed}
 use Rattle.records.proofs.Bumping.{rises-bumped, wide-bumped, lookup-bumped, held-bumped}
-use Rattle.records.proofs.Followed.{context-take, eqs-take, begins-all}
 use Rattle.records.proofs.Counting.{cell-past, count-raised, wide-lookup}
 
 -- ---- the order and the numbers of a record are kept

@@ -11,20 +11,20 @@ use Rattle.numbers.specs.Every.{all}
 use Rattle.numbers.proofs.Tests.{T?, bool-ext, both, left, right, or-rest, is-false}
 use Rattle.numbers.proofs.Orders.{less, same, more, order, eq→eqb}
 use Rattle.numbers.proofs.Every.{all-at, all-of}
-use Rattle.contexts.specs.Context.{isContext}
-use Rattle.contexts.specs.Keys.{keyOf, deskOf, contextOf}
+use Rattle.contexts.specs.Context.{isContext, parentOf}
+use Rattle.contexts.specs.Keys.{keyOf, deskOf, contextOf, lenOf, weight}
 use Rattle.contexts.specs.Sitting.{Sample, first, second}
 use Rattle.contexts.proofs.Strings.{context-length}
+use Rattle.contexts.proofs.Oldest.{length-snoc, context-snoc, oldest-below}
+use Rattle.contexts.proofs.Digits.{ends-short, Ends, contextOf-within, contextOf-length, key-back, key-ends, key-length}
 use Rattle.records.specs.Records.{key, lookup}
 use Rattle.records.specs.Held.{held}
 use Rattle.records.proofs.Finding.{lookup-absent, lookup-held, key-lookup}
 use Rattle.records.proofs.Counting.{total-blank}
 use Rattle.store.specs.Layout.{isOpen, symbolsAt, depthAt, totalOf}
-use Rattle.store.specs.Sound.{eachSample, keyOk, sampleOk, tableOk, parentOf, parentKey, parentOk, recordOk}
-use Rattle.store.specs.Walk.{lenOf, weight, oldestOk, endsOk, keyFits, ownOk}
+use Rattle.store.specs.Sound.{eachSample, keyOk, sampleOk, tableOk, parentKey, parentOk, recordOk}
+use Rattle.store.specs.Walk.{oldestOk, endsOk, keyFits, ownOk}
 use Rattle.store.proofs.Many.{sample-at}
-use Rattle.store.proofs.Strings.{length-snoc, context-snoc, oldest-below}
-use Rattle.store.proofs.Digits.{ends-short, Ends, contextOf-within, contextOf-length, key-back, key-ends, key-length}
 use Rattle.store.proofs.Parents.{above}
 use Rattle.store.proofs.Walking.{fitOk, own-key}
 

@@ -10,7 +10,7 @@ use Rattle.numbers.specs.Limits.{mostSymbols, deepest, desks}
 use Rattle.numbers.proofs.Tests.{T?, both, or-left, or-right, of-true}
 use Rattle.numbers.proofs.Orders.{less, same, more, order, eq→eqb}
 use Rattle.numbers.proofs.Every.{every-of, all-of}
-use Rattle.contexts.specs.Context.{isContext}
+use Rattle.contexts.specs.Context.{isContext, parentOf}
 use Rattle.contexts.specs.Keys.{keyOf, deskOf, contextOf}
 use Rattle.contexts.specs.Sitting.{Sample, first, second, sumOf}
 use Rattle.contexts.proofs.Strings.{begins-take, context-more}
@@ -19,7 +19,7 @@ use Rattle.records.specs.Records.{key, keys, countsOf, rises, lookup}
 use Rattle.records.proofs.Rising.{apart-rises}
 use Rattle.records.proofs.Finding.{lookup-place}
 use Rattle.store.specs.Layout.{used, isOpen, symbolsAt, depthAt, sizeAt, slotsAt, recordsIn, totalOf}
-use Rattle.store.specs.Sound.{below, eachSample, deskOk, heldBy, keyOk, quietFrom, countsOk, sampleOk, tableOk, parentOf, parentOk, recordOk, soundb}
+use Rattle.store.specs.Sound.{below, eachSample, deskOk, heldBy, keyOk, quietFrom, countsOk, sampleOk, tableOk, parentOk, recordOk, soundb}
 use Rattle.store.specs.Plain.{Open, ContextAt, recordFor, totalAt, recordAt, Sound}
 use Rattle.store.proofs.Many.{sample-of}
 use Rattle.store.proofs.Parts.{records-length}

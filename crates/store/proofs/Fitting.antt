@@ -16,12 +16,12 @@ use Rattle.numbers.proofs.Every.{all-take}
 use Rattle.contexts.specs.Context.{isContext}
 use Rattle.contexts.specs.Sitting.{Sample, Progress}
 use Rattle.contexts.proofs.Strings.{context-cons}
+use Rattle.contexts.proofs.Oldest.{context-parent}
 use Rattle.replay.specs.Room.{Opening, closed, opened, reserved}
 use Rattle.store.specs.Layout.{isOpen, symbolsAt, depthAt, sizeAt, slotsAt}
 use Rattle.store.specs.Sound.{below, reservedAt, soundb}
 use Rattle.store.specs.Plain.{Open}
 use Rattle.store.specs.Meaning.{openingAt, progressAt, deskAt, meaning, SittingFits, Fits}
-use Rattle.store.proofs.Strings.{context-parent}
 use Rattle.store.proofs.Passing.{Passed, passed, desk-passed, context-counts}
 use Rattle.store.proofs.Standing.{slots-long, seen-parent}
 use Rattle.store.proofs.Holding.{total-outside, total-context, held-kept}

@@ -1,6 +1,4 @@
 pub mod Many
-pub mod Strings
-pub mod Digits
 pub mod Parents
 pub mod Marks
 pub mod Walking

@@ -10,16 +10,17 @@ use lib.Dec.{T, ltb, eqb}
 use lib.ListN.{length, getD, length-set}
 use lib.Seq.{getD-set-same, getD-set-other}
 use Rattle.numbers.proofs.Lists.{zeros-at}
-use Rattle.contexts.specs.Keys.{keyOf, deskOf, contextOf}
+use Rattle.contexts.specs.Context.{parentOf}
+use Rattle.contexts.specs.Keys.{keyOf, deskOf, contextOf, lenOf, weight}
 use Rattle.contexts.specs.Sitting.{Sample}
+use Rattle.contexts.proofs.Digits.{ends-short, Ends, contextOf-length, key-back}
 use Rattle.records.specs.Records.{key, keys, rises, lookup, blank}
 use Rattle.records.proofs.Rising.{rises-first, rises-rest, rises-cons}
 use Rattle.records.proofs.Finding.{held-none, lookup-absent, lookup-head}
 use Rattle.records.proofs.Counting.{total-blank}
 use Rattle.store.specs.Layout.{totalOf}
-use Rattle.store.specs.Sound.{parentOf, parentKey, parentOk}
-use Rattle.store.specs.Walk.{lenOf, weight, upMark, marked, markOk, after, start}
-use Rattle.store.proofs.Digits.{ends-short, Ends, contextOf-length, key-back}
+use Rattle.store.specs.Sound.{parentKey, parentOk}
+use Rattle.store.specs.Walk.{upMark, marked, markOk, after, start}
 use Rattle.store.proofs.Parents.{Above, above, apart, root-mark}
 
 -- the records from lo up are those of `rest`

@@ -11,16 +11,16 @@ use lib.Seq.{length-take-le}
 use Rattle.numbers.specs.Limits.{deepest, desks}
 use Rattle.numbers.proofs.Orders.{less, same, more, order}
 use Rattle.numbers.proofs.Every.{all-at}
-use Rattle.contexts.specs.Context.{begins}
+use Rattle.contexts.specs.Context.{begins, parentOf}
 use Rattle.contexts.specs.Keys.{keyOf, deskOf, contextOf}
 use Rattle.contexts.specs.Sitting.{Sample, first, second}
+use Rattle.contexts.proofs.Oldest.{none, some, oldest, parent-snoc, length-snoc, context-parent, begins-cut}
 use Rattle.records.specs.Records.{key, lookup}
 use Rattle.records.proofs.Rising.{rises-apart}
 use Rattle.records.proofs.Counting.{total-blank}
 use Rattle.store.specs.Layout.{headerSize, deskStart, used, symbolsAt, depthAt, slotsAt, recordsIn, totalOf}
-use Rattle.store.specs.Sound.{below, heldBy, parentOf, parentKey, recordOk, soundb}
+use Rattle.store.specs.Sound.{below, heldBy, parentKey, recordOk, soundb}
 use Rattle.store.specs.Plain.{Open, ContextAt, recordFor, totalAt, Counts, recordAt, Sound}
-use Rattle.store.proofs.Strings.{none, some, oldest, parent-snoc, length-snoc, context-parent, begins-cut}
 use Rattle.store.proofs.Parts.{records-length}
 use Rattle.store.proofs.Desks.{DeskStands}
 use Rattle.store.proofs.Climbing.{key-stands, table-seen, parent-seen}

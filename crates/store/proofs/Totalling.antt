@@ -1,42 +1,24 @@
 -- How many contexts a list of records holds: the sum over all strings of those that have a record. Assumes nothing.
 use mathlib.Core.Path.{_≡_, refl, ap, _∙_}
-use mathlib.Core.Bool.{Bool, true, false, _&&_, _||_}
+use mathlib.Core.Bool.{Bool, true, false, _||_}
 use mathlib.Core.List.{List, [], _∷_}
-use Prim.Native.Nat.{ℕ, zero, suc, _+_, _≤_, _<_}
+use Prim.Native.Nat.{ℕ, suc, _+_, _≤_, _<_}
 use native.Mathlib.Omega.{arith}
 use borrow.Author.Tests.{eq-eqb}
 use lib.Dec.{T, eqb, eqb→eq}
 use lib.ListN.{length, getD}
 use Rattle.numbers.specs.Limits.{mostSymbols, deepest}
-use Rattle.numbers.specs.Sum.{one, sum}
-use Rattle.numbers.proofs.Orders.{eqb-sym}
-use Rattle.numbers.proofs.Sums.{sum-cong, sum-zero, sum-pick}
+use Rattle.numbers.specs.Sum.{one}
 use Rattle.contexts.specs.Context.{isContext, eqs}
 use Rattle.contexts.specs.Keys.{keyOf}
 use Rattle.contexts.specs.Strings.{total}
-use Rattle.contexts.proofs.Strings.{newest-below, older-context, context-more}
-use Rattle.contexts.proofs.Totalling.{total-within, total-add, total-none, total-only}
+use Rattle.contexts.proofs.Strings.{context-more}
+use Rattle.contexts.proofs.Totalling.{total-within, total-one, total-add, total-none}
 use Rattle.contexts.proofs.KeyOrder.{Within, eqb-key}
 use Rattle.records.specs.Records.{key, keys, rises}
 use Rattle.records.specs.Held.{held}
 use Rattle.records.proofs.Rising.{rises-rest}
 use Rattle.records.proofs.Finding.{held-none}
-
--- one of the strings is t
-pub total-one : (A d : ℕ) (t : List ℕ) → T (isContext A d t) → total A d (λ s. one (eqs t s)) ≡ 1
-unfolding total isContext
-total-one A d [] c = total-only A d (λ s. one (eqs [] s)) (λ a s. refl)
-total-one A zero (x ∷ t) c = absurd c
-total-one A (suc d) (x ∷ t) c =
-    let ih = total-one A d t (older-context A d x t c) in
-    let e = sum-cong A {g = λ a. 0 + one (true && eqb a x)} (λ a l. pick a (eqb x a) refl ih) in
-    let f = sum-pick A x (λ a. 0) true (newest-below A d x t c) in
-    let z : sum A (λ a. 0) ≡ 0 = sum-zero A (λ a l. refl) in
-    omega arith
-  where
-    pick : (a : ℕ) (b : Bool) → eqb x a ≡ b → total A d (λ s. one (eqs t s)) ≡ 1 → total A d (λ s. one (b && eqs t s)) ≡ 0 + one (true && eqb a x)
-    pick a true e ih = rw (eqb-sym a x, e) ih
-    pick a false e ih = rw (eqb-sym a x, e) (total-none A d (λ s. refl))
 
 either : (a b : Bool) → (T a → b ≡ false) → one (a || b) ≡ one a + one b
 either true b f = rw (f tt)

@@ -13,14 +13,14 @@ use Rattle.numbers.specs.Every.{every}
 use Rattle.numbers.proofs.Tests.{of-true}
 use Rattle.numbers.proofs.Lists.{zeros-at, cons-at, none-at}
 use Rattle.numbers.proofs.Every.{every-cong}
-use Rattle.contexts.specs.Keys.{deskOf}
+use Rattle.contexts.specs.Keys.{deskOf, lenOf}
 use Rattle.contexts.specs.Sitting.{first, second}
 use Rattle.records.specs.Records.{width, records, key}
 use Rattle.records.specs.Held.{keep, ofDesk}
 use Rattle.records.proofs.Parts.{length-parts}
 use Rattle.store.specs.Layout.{headerSize, totalOf}
 use Rattle.store.specs.Sound.{heldBy, deskTest}
-use Rattle.store.specs.Walk.{lenOf, walk, stepOk, after, marked, start, tallyOk, passb}
+use Rattle.store.specs.Walk.{walk, stepOk, after, marked, start, tallyOk, passb}
 use Rattle.store.proofs.Walking.{step-desk}
 
 -- ---- one record, and the others

@@ -11,15 +11,15 @@ use lib.ListN.{getD}
 use Rattle.numbers.specs.Limits.{desks}
 use Rattle.numbers.specs.Every.{all}
 use Rattle.numbers.proofs.Tests.{both, left, right, of-true, is-true}
-use Rattle.contexts.specs.Keys.{deskOf}
+use Rattle.contexts.specs.Keys.{deskOf, lenOf}
 use Rattle.contexts.specs.Sitting.{first, second}
+use Rattle.contexts.proofs.Digits.{Ends}
 use Rattle.records.specs.Records.{key, keys, rises}
 use Rattle.records.proofs.Rising.{rises-first, rises-rest}
 use Rattle.records.proofs.Finding.{lookup-tail}
 use Rattle.store.specs.Layout.{isOpen, symbolsAt, depthAt}
 use Rattle.store.specs.Sound.{eachSample, parentOk, tableOk}
-use Rattle.store.specs.Walk.{lenOf, oldestOk, endsOk, keyFits, ownOk, stepOk, after, walk, start}
-use Rattle.store.proofs.Digits.{Ends}
+use Rattle.store.specs.Walk.{oldestOk, endsOk, keyFits, ownOk, stepOk, after, walk, start}
 use Rattle.store.proofs.Marks.{Rest, Kept, kept-start, kept-next, mark-parent}
 
 -- a record's own test, and its parent looked up

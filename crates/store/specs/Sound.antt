@@ -2,13 +2,13 @@
 -- records in use, and finds the record of a shorter context by its key. Assumes nothing.
 use mathlib.Core.Bool.{Bool, true, cond, _&&_, _||_}
 use mathlib.Core.List.{List}
-use Prim.Native.Nat.{ℕ, _+_, _-_}
-use lib.ListN.{take, getD, length}
+use Prim.Native.Nat.{ℕ, _+_}
+use lib.ListN.{getD, length}
 use lib.Dec.{leb, ltb, eqb}
 use Rattle.numbers.specs.Limits.{fewestSymbols, mostSymbols, deepest, longest, desks, mostRoom}
 use Rattle.numbers.specs.Sum.{sum}
 use Rattle.numbers.specs.Every.{every, all}
-use Rattle.contexts.specs.Context.{isContext}
+use Rattle.contexts.specs.Context.{isContext, parentOf}
 use Rattle.contexts.specs.Keys.{keyOf, deskOf, contextOf}
 use Rattle.contexts.specs.Sitting.{Sample, first, second, sumOf}
 use Rattle.records.specs.Records.{key, keys, countsOf, rises, lookup}
@@ -85,10 +85,7 @@ sampleOk s r i = countsOk (symbolsAt s (deskOf (key r))) (sizeAt s (deskOf (key 
 unfoldable pub tableOk : List ℕ → List ℕ → Bool
 tableOk s r = eachSample (sampleOk s r) && ltb 0 (totalOf first r + totalOf second r)
 
--- a context less its oldest symbol
-abbrev pub parentOf : List ℕ → List ℕ
-parentOf s = take (length s - 1) s
-
+-- the key of a key's parent
 abbrev pub parentKey : ℕ → ℕ
 parentKey k = keyOf (deskOf k) (parentOf (contextOf k))
 
