@@ -1,6 +1,6 @@
 -- Keys keep the row order, are injective, and read back; a child's key from its parent's. Assumes nothing.
 use Prim.Native.Nat.{ℕ, zero, suc, _+_, _*_, _^_, _/_, _%_, _≤_, _<_}
-use mathlib.Core.Path.{_≡_, refl, sym, ap, ap₂, subst, _∙_}
+use mathlib.Core.Path.{_≡_, refl, sym, ap, ap₂, _∙_}
 use mathlib.Core.Bool.{_&&_}
 use mathlib.Core.List.{List, [], _∷_, _++_}
 use native.Mathlib.Omega.{arith}
@@ -8,7 +8,7 @@ use native.Mathlib.Nat.{mul-le-mul-right, pow-suc}
 use lib.ListN.{length, take, getD, length-append}
 use lib.Seq.{take-suc, length-take-le}
 use lib.Arith.{digits-div, digits-mod}
-use lib.Dec.{T, eqb, eqb→eq, eqb-refl}
+use lib.Dec.{T, eqb, eqb→eq}
 use Rattle.numbers.specs.Limits.{mostSymbols, deepest}
 use Rattle.numbers.proofs.Tests.{bool-ext, both, left, right}
 use Rattle.numbers.proofs.Orders.{eq→eqb}

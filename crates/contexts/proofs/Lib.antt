@@ -1,8 +1,11 @@
 pub mod Strings
+pub mod Oldest
+pub mod Followed
 pub mod Places
 pub mod Totals
 pub mod RowOrder
 pub mod KeyOrder
+pub mod Digits
 pub mod Codes
 pub mod Totalling
 pub mod Tables

@@ -1,12 +1,12 @@
 -- The row order of contexts: of two contexts one precedes, or they are the same; none precedes itself. Assumes nothing.
 use Prim.Native.Nat.{ℕ, _<_}
-use mathlib.Core.Path.{_≡_, refl, ap₂, subst, sym}
+use mathlib.Core.Path.{_≡_, refl, ap₂, subst}
 use mathlib.Core.Bool.{_&&_}
 use mathlib.Core.List.{List, [], _∷_}
 use native.Mathlib.Omega.{arith}
 use lib.Dec.{T, eqb, ltb, eqb→eq, ltb→lt, lt→ltb, eqb-refl}
 use Rattle.numbers.proofs.Tests.{both, left, right, or-left, or-right, or-rest}
-use Rattle.numbers.proofs.Orders.{less, same, more, order, eq→eqb}
+use Rattle.numbers.proofs.Orders.{less, same, more, order}
 use Rattle.contexts.specs.Context.{precedes}
 
 pub precedes-less : (a b : ℕ) (s t : List ℕ) → a < b → T (precedes (a ∷ s) (b ∷ t))

@@ -1,15 +1,17 @@
 -- Laws of sums over all strings up to a depth. Assumes nothing.
-use Prim.Native.Nat.{ℕ, zero, suc, _+_, _*_, _≤_, _<_}
+use Prim.Native.Nat.{ℕ, zero, suc, _+_, _*_, _≤_}
 use native.Mathlib.Nat.{le-refl, add-le-add, mul-le-mul}
 use native.Mathlib.Omega.{arith}
 use mathlib.Core.Path.{_≡_, refl, ap₂}
+use mathlib.Core.Bool.{Bool, true, false, _&&_}
 use mathlib.Core.List.{List, [], _∷_}
-use lib.Dec.{T}
-use Rattle.numbers.specs.Sum.{sum}
-use Rattle.numbers.proofs.Sums.{sum-mono, sum-cong, sum-add, sum-zero, sum-same}
-use Rattle.contexts.specs.Context.{isContext}
+use lib.Dec.{T, eqb}
+use Rattle.numbers.specs.Sum.{one, sum}
+use Rattle.numbers.proofs.Orders.{eqb-sym}
+use Rattle.numbers.proofs.Sums.{sum-mono, sum-cong, sum-add, sum-zero, sum-same, sum-pick}
+use Rattle.contexts.specs.Context.{isContext, eqs}
 use Rattle.contexts.specs.Strings.{under, total, strings}
-use Rattle.contexts.proofs.Strings.{context-cons}
+use Rattle.contexts.proofs.Strings.{newest-below, older-context, context-cons}
 
 pub total-root : (A d : ℕ) (g : List ℕ → ℕ) → g [] ≤ total A d g
 unfolding total
@@ -43,6 +45,22 @@ pub total-only : (A d : ℕ) (g : List ℕ → ℕ) → ((a : ℕ) (s : List ℕ
 unfolding total
 total-only A zero g e = refl
 total-only A (suc d) g e = omega (arith, sum-zero A (λ a l. total-none A d (λ s. e a s)))
+
+-- one of the strings is t
+pub total-one : (A d : ℕ) (t : List ℕ) → T (isContext A d t) → total A d (λ s. one (eqs t s)) ≡ 1
+unfolding total isContext
+total-one A d [] c = total-only A d (λ s. one (eqs [] s)) (λ a s. refl)
+total-one A zero (x ∷ t) c = absurd c
+total-one A (suc d) (x ∷ t) c =
+    let ih = total-one A d t (older-context A d x t c) in
+    let e = sum-cong A {g = λ a. 0 + one (true && eqb a x)} (λ a l. pick a (eqb x a) refl ih) in
+    let f = sum-pick A x (λ a. 0) true (newest-below A d x t c) in
+    let z : sum A (λ a. 0) ≡ 0 = sum-zero A (λ a l. refl) in
+    omega arith
+  where
+    pick : (a : ℕ) (b : Bool) → eqb x a ≡ b → total A d (λ s. one (eqs t s)) ≡ 1 → total A d (λ s. one (b && eqs t s)) ≡ 0 + one (true && eqb a x)
+    pick a true e ih = rw (eqb-sym a x, e) ih
+    pick a false e ih = rw (eqb-sym a x, e) (total-none A d (λ s. refl))
 
 pub total-mono : (A d : ℕ) {g h : List ℕ → ℕ} → ((s : List ℕ) → g s ≤ h s) → total A d g ≤ total A d h
 unfolding total

@@ -1,5 +1,5 @@
 -- N(s), the sum over the symbols, is the number of counted places that s stands before. Assumes nothing.
-use Prim.Native.Nat.{ℕ, zero, suc, _+_, _≤_, _<_}
+use Prim.Native.Nat.{ℕ, _+_, _≤_}
 use mathlib.Core.Path.{_≡_, refl, ap, _∙_}
 use mathlib.Core.Bool.{Bool, true, false, _&&_, _||_, and-assoc}
 use mathlib.Core.List.{List, [], _∷_}
@@ -7,7 +7,7 @@ use native.Mathlib.Omega.{arith}
 use lib.ListN.{length}
 use lib.Dec.{T, eqb, ltb, leb}
 use borrow.Author.Tests.{lt-ltb}
-use Rattle.numbers.specs.Sum.{one, sum}
+use Rattle.numbers.specs.Sum.{one}
 use Rattle.numbers.proofs.Tests.{one-le}
 use Rattle.numbers.proofs.Orders.{eqb-sym}
 use Rattle.numbers.proofs.Sums.{sum-cong, sum-zero, sum-pick}

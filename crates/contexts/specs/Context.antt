@@ -1,8 +1,9 @@
 -- Contexts. Document 01 writes a context oldest first; here it is the list of its symbols, MOST RECENT FIRST, so that the older symbols follow.
 -- Assumes nothing.
-use Prim.Native.Nat.{ℕ, zero, suc, _+_, _*_, _/_, _%_}
+use Prim.Native.Nat.{ℕ, zero, suc, _+_, _-_, _*_, _/_, _%_}
 use mathlib.Core.Bool.{Bool, true, false, _&&_, _||_}
 use mathlib.Core.List.{List, [], _∷_}
+use lib.ListN.{length, take}
 use lib.Dec.{eqb, ltb}
 
 -- at most d symbols, each below A
@@ -10,6 +11,10 @@ unfoldable pub isContext : ℕ → ℕ → List ℕ → Bool
 isContext A d [] = true
 isContext A zero (a ∷ s) = false
 isContext A (suc d) (a ∷ s) = ltb a A && isContext A d s
+
+-- a context less its oldest symbol; the empty context is its own
+abbrev pub parentOf : List ℕ → List ℕ
+parentOf s = take (length s - 1) s
 
 -- two strings are the same
 abbrev pub eqs : List ℕ → List ℕ → Bool

@@ -1,6 +1,6 @@
 -- The key of a context, by which a store orders its records: the symbols as octal digits, left-aligned, most recent first, and the length as the
 -- lowest digit. The order of keys is the row order. Assumes nothing.
-use Prim.Native.Nat.{ℕ, zero, suc, _+_, _*_, _^_, _/_, _%_}
+use Prim.Native.Nat.{ℕ, zero, suc, _+_, _-_, _*_, _^_, _/_, _%_}
 use mathlib.Core.List.{List, [], _∷_}
 use lib.ListN.{length}
 use Rattle.numbers.specs.Limits.{deepest}
@@ -26,6 +26,14 @@ keyOf d s = d * deskSpan + contextKey s
 abbrev pub deskOf : ℕ → ℕ
 deskOf k = k / deskSpan
 
+-- the length is the lowest octal digit
+abbrev pub lenOf : ℕ → ℕ
+lenOf k = k % 8
+
+-- what the oldest of l symbols weighs in a key
+unfoldable pub weight : ℕ → ℕ
+weight l = 8 ^ (7 - l)
+
 -- the first l of the n octal digits of v
 unfoldable pub symbolsOf : ℕ → ℕ → ℕ → List ℕ
 symbolsOf zero l v = []
@@ -33,4 +41,4 @@ symbolsOf (suc n) zero v = []
 symbolsOf (suc n) (suc l) v = v / 8 ^ n ∷ symbolsOf n l (v % 8 ^ n)
 
 abbrev pub contextOf : ℕ → List ℕ
-contextOf k = symbolsOf deepest (k % 8) (k % deskSpan / 8)
+contextOf k = symbolsOf deepest (lenOf k) (k % deskSpan / 8)

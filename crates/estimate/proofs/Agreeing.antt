@@ -17,6 +17,7 @@ use Rattle.estimate.specs.Score.{ofKind, counts, sizeOf, cost, worths, s
 use Rattle.estimate.specs.Recursion.{Losses, spread, losses, best, separate, joint, split, splitBoth, tree, estimate, estimateOf}
 use Rattle.estimate.proofs.Integers.{minus}
 use Rattle.estimate.proofs.Spreads.{spread-cong}
+use Rattle.estimate.proofs.Tables.{kind-cong}
 use Rattle.estimate.proofs.Optimal.{score-estimate}
 
 -- f and g are equal at the contexts of at most d symbols below A
@@ -97,10 +98,6 @@ estimate-alike A (suc d) f g e = go (λ a l. estimate-alike A d (below a f) (bel
 
 -- ---- two sittings
 
-kind-alike : (k : Kind) (g h : Sample → ℕ) → ((i : Sample) → g i ≡ h i) → ofKind k g ≡ ofKind k h
-kind-alike shared g h e = ap₂ _+_ (e first) (e second)
-kind-alike (own i) g h e = e i
-
 module _ (A D : ℕ) (n m : Sample → ℕ) (c e : Sample → List ℕ → ℕ → ℕ) (sizes : (i : Sample) → n i ≡ m i)
     (same : (i : Sample) (s : List ℕ) (a : ℕ) → T (isContext A D s) → c i s a ≡ e i s a) where
   abbrev x : Sitting
@@ -111,7 +108,7 @@ module _ (A D : ℕ) (n m : Sample → ℕ) (c e : Sample → List ℕ → ℕ �
 
   losses-alike : (k : Kind) (s : List ℕ) → T (isContext A D s) → losses x k s ≡ losses y k s
   losses-alike k s h =
-      ap₂ _+_ (ap (cost A) (kind-alike k n m sizes)) (spread-cong A {c = counts x k s} {e = counts y k s} (λ a l. kind-alike k (λ i. c i s a) (λ i. e i s a) (λ i. same i s a h)))
+      ap₂ _+_ (ap (cost A) (kind-cong k {g = n} {h = m} sizes)) (spread-cong A {c = counts x k s} {e = counts y k s} (λ a l. kind-cong k {g = λ i. c i s a} {h = λ i. e i s a} (λ i. same i s a h)))
 
   -- THEOREM. Two sittings of one A and D that agree on lengths and on the counts of every context have one estimate, and one score
   pub same-estimate : estimateOf x ≡ estimateOf y

@@ -25,7 +25,7 @@ spread-eight c = spread-cong mostSymbols (eight-at c)
 
 -- ---- of a sitting's table
 
-kind-cong : (k : Kind) {g h : Sample → ℕ} → ((i : Sample) → g i ≡ h i) → ofKind k g ≡ ofKind k h
+pub kind-cong : (k : Kind) {g h : Sample → ℕ} → ((i : Sample) → g i ≡ h i) → ofKind k g ≡ ofKind k h
 kind-cong shared e = ap₂ _+_ (e first) (e second)
 kind-cong (own i) e = e i
 

@@ -1,3 +1,5 @@
 pub mod Tests
 pub mod Orders
 pub mod Sums
+pub mod Lists
+pub mod Every

@@ -40,6 +40,10 @@ pub sum-next : (n : ℕ) (f : ℕ → ℕ) → sum (n + 1) f ≡ sum n f + f n
 unfolding sum
 sum-next n f = rw add-one
 
+pub sum-none : (f : ℕ → ℕ) → sum 0 f ≡ 0
+unfolding sum
+sum-none f = refl
+
 pub sum-longer : (m n : ℕ) (f : ℕ → ℕ) → m ≤ n → sum m f ≤ sum n f
 unfolding sum
 sum-longer m zero f l = let e : m ≡ 0 = omega arith in rw e (le-refl 0)

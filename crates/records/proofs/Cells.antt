@@ -7,10 +7,10 @@ use native.Mathlib.Omega.{arith}
 use lib.ListN.{length, take, drop, getD}
 use lib.Seq.{drop-cons, drop-drop, take-take}
 use Rattle.numbers.specs.Limits.{mostSymbols}
+use Rattle.numbers.proofs.Lists.{drop-take}
 use Rattle.contexts.specs.Sitting.{eight}
 use Rattle.records.specs.Records.{width}
 use Rattle.records.specs.Held.{recordAt}
-use Rattle.records.proofs.Parts.{drop-take}
 
 -- n numbers from a place on, each read
 cells : ℕ → ℕ → List ℕ → List ℕ

@@ -2,18 +2,19 @@
 use mathlib.Core.Path.{_≡_, refl, sym, ap, _∙_}
 use mathlib.Core.Bool.{Bool, true, false, cond, _&&_}
 use mathlib.Core.List.{List, [], _∷_}
-use Prim.Native.Nat.{ℕ, zero, suc, _+_, _≤_, _<_}
+use Prim.Native.Nat.{ℕ, _+_, _≤_, _<_}
 use native.Mathlib.Omega.{arith}
 use borrow.Author.Tests.{eq-eqb, ne-eqb}
 use lib.Dec.{eqb}
-use lib.ListN.{length, take, drop, getD, set, replicate, length-drop}
-use lib.Seq.{drop-set-add, drop-set-lt, take-set-lt, take-set-le, getD-drop, getD-take, getD-set-same, getD-set-other, length-take-le}
+use lib.ListN.{length, take, drop, getD, set, length-drop}
+use lib.Seq.{drop-set-add, drop-set-lt, take-set-lt, take-set-le, getD-set-same, getD-set-other, length-take-le}
 use Rattle.numbers.specs.Limits.{mostSymbols}
-use Rattle.numbers.specs.Sum.{one}
+use Rattle.numbers.specs.Sum.{one, sum}
 use Rattle.numbers.proofs.Tests.{choose}
 use Rattle.numbers.proofs.Orders.{less, same, more, order}
-use Rattle.contexts.specs.Sitting.{Sample, first, second, sameSample}
-use Rattle.records.specs.Records.{width, key, startOf, countsOf, blank, lookup}
+use Rattle.numbers.proofs.Lists.{getD-part, zeros-at}
+use Rattle.contexts.specs.Sitting.{Sample, first, second, sameSample, sumOf}
+use Rattle.records.specs.Records.{width, key, startOf, countsOf, countOf, blank, lookup}
 use Rattle.records.specs.Held.{held, countAt, Rising, Wide}
 use Rattle.records.specs.Bumped.{cellOf, raised, bumped}
 use Rattle.records.proofs.Finding.{lookup-absent}
@@ -26,7 +27,7 @@ part-in : (s m x : ℕ) (r : List ℕ) → x < m → take m (drop s (raised (s +
 part-in s m x r h =
     ap (take m) (drop-set-add s r x (getD r (s + x) 0 + 1))
     ∙ take-set-lt m (drop s r) x (getD r (s + x) 0 + 1) h
-    ∙ ap (λ (v : ℕ). set (take m (drop s r)) x (v + 1)) (sym (getD-take m (drop s r) x 0 h ∙ getD-drop s r x 0))
+    ∙ ap (λ (v : ℕ). set (take m (drop s r)) x (v + 1)) (sym (getD-part m s r x 0 h))
 
 part-before : (s m c : ℕ) (r : List ℕ) → c < s → take m (drop s (raised c r)) ≡ take m (drop s r)
 part-before s m c r h = ap (take m) (drop-set-lt s r c (getD r c 0 + 1) h)
@@ -58,7 +59,7 @@ length-counts second r e = length-take-le mostSymbols (drop 9 r) (rw (length-dro
 
 -- THEOREM. A raised record has one more of that symbol in that sample, and every other count as before
 pub count-raised : (i j : Sample) (a b : ℕ) (r : List ℕ) → a < mostSymbols → length r ≡ width
-    → getD (countsOf j (raised (cellOf i a) r)) b 0 ≡ getD (countsOf j r) b 0 + one (sameSample i j && eqb a b)
+    → countOf j (raised (cellOf i a) r) b ≡ countOf j r b + one (sameSample i j && eqb a b)
 count-raised i j a b r h e = rw (counts-raised i j a r h) (go (sameSample i j))
   where
     go : (t : Bool) → getD (cond t (raised a (countsOf j r)) (countsOf j r)) b 0 ≡ getD (countsOf j r) b 0 + one (t && eqb a b)
@@ -66,8 +67,8 @@ count-raised i j a b r h e = rw (counts-raised i j a r h) (go (sameSample i j))
     go false = omega arith
 
 -- a count by its cell
-pub count-cell : (i : Sample) (a : ℕ) (r : List ℕ) → a < mostSymbols → getD (countsOf i r) a 0 ≡ getD r (cellOf i a) 0
-count-cell i a r h = getD-take mostSymbols (drop (startOf i) r) a 0 h ∙ getD-drop (startOf i) r a 0
+pub count-cell : (i : Sample) (a : ℕ) (r : List ℕ) → a < mostSymbols → countOf i r a ≡ getD r (cellOf i a) 0
+count-cell i a r h = getD-part mostSymbols (startOf i) r a 0 h
 
 pub cell-past : (i : Sample) (a : ℕ) → 1 ≤ cellOf i a
 cell-past first a = omega arith
@@ -79,15 +80,15 @@ cell-within second a h = omega arith
 
 -- ---- under a key
 
-no-count : (n b : ℕ) → _≡_ {A = ℕ} (getD (replicate n 0) b 0) 0
-no-count zero b = refl
-no-count (suc n) zero = refl
-no-count (suc n) (suc b) = no-count n b
-
 -- a blank record has no count, so a key that no record has stands for none
-pub count-blank : (i : Sample) (b k : ℕ) → getD (countsOf i (blank k)) b 0 ≡ 0
-count-blank first b k = no-count 8 b
-count-blank second b k = no-count 8 b
+pub count-blank : (i : Sample) (b k : ℕ) → countOf i (blank k) b ≡ 0
+count-blank first b k = zeros-at 8 b
+count-blank second b k = zeros-at 8 b
+
+pub total-blank : (i : Sample) (k : ℕ) → sumOf (countsOf i (blank k)) ≡ 0
+unfolding sum
+total-blank first k = refl
+total-blank second k = refl
 
 pub count-absent : (k : ℕ) (i : Sample) (b : ℕ) (rs : List (List ℕ)) → held k rs ≡ false → countAt k i b rs ≡ 0
 count-absent k i b rs h = rw (lookup-absent k rs h) (count-blank i b k)
@@ -102,6 +103,6 @@ pub count-bumped : (k k′ : ℕ) (i j : Sample) (a b : ℕ) (rs : List (List �
     → countAt k′ j b (bumped k i a rs) ≡ countAt k′ j b rs + one (eqb k k′ && (sameSample i j && eqb a b))
 count-bumped k k′ i j a b rs h w up = rw (lookup-bumped (cellOf i a) (cell-past i a) k k′ rs up) (go (eqb k k′))
   where
-    go : (t : Bool) → getD (countsOf j (cond t (raised (cellOf i a) (lookup k′ rs)) (lookup k′ rs))) b 0 ≡ getD (countsOf j (lookup k′ rs)) b 0 + one (t && (sameSample i j && eqb a b))
+    go : (t : Bool) → countOf j (cond t (raised (cellOf i a) (lookup k′ rs)) (lookup k′ rs)) b ≡ countOf j (lookup k′ rs) b + one (t && (sameSample i j && eqb a b))
     go true = count-raised i j a b (lookup k′ rs) h (wide-lookup k′ rs w)
     go false = omega arith

@@ -3,7 +3,6 @@ use mathlib.Core.Path.{_≡_, refl, sym, ap, ap₂, _∙_}
 use mathlib.Core.Bool.{Bool, not, and-false}
 use mathlib.Core.List.{List}
 use Prim.Native.Nat.{ℕ, zero, suc, _+_, _*_, _/_, _≤_, _<_}
-use native.Mathlib.Nat.{le-refl}
 use native.Mathlib.Numerals.{add-one}
 use native.Mathlib.Omega.{arith}
 use borrow.Author.Tests.{le-ltb}
@@ -11,8 +10,9 @@ use lib.ListN.{length, take, getD, length-take}
 use Rattle.contexts.specs.Sitting.{sampleOf}
 use Rattle.numbers.specs.Limits.{mostSymbols, deepest}
 use Rattle.numbers.specs.Sum.{one, sum}
-use Rattle.numbers.proofs.Orders.{less, same, more, order}
+use Rattle.numbers.proofs.Sums.{sum-longer}
 use Rattle.contexts.specs.Keys.{deskSpan, keyOf}
+use Rattle.contexts.proofs.Followed.{context-take}
 use Rattle.records.specs.Records.{width, records, lookup}
 use Rattle.records.specs.Held.{held, Rising}
 use Rattle.records.specs.Bumped.{cellOf, bumpedAt, Bumpable, Written}
@@ -21,20 +21,9 @@ use Rattle.records.proofs.Parts.{length-parts}
 use Rattle.records.proofs.Lent.{agree-later}
 use Rattle.records.proofs.Bumping.{length-bumped}
 use Rattle.records.proofs.Counting.{count-cell, cell-past, cell-within}
-use Rattle.records.proofs.Followed.{context-take}
 use Rattle.records.proofs.Feeding.{rising-fedTo, lookup-fedTo}
 use Rattle.records.proofs.Growing.{lacks, held-yet, length-fedTo}
 use Rattle.records.proofs.KeyWalk.{Walk, walk-start, walk-on}
-
--- the first terms of a sum are at most all of it
-sum-first : (m n : ℕ) (f : ℕ → ℕ) → m ≤ n → sum m f ≤ sum n f
-unfolding sum
-sum-first m zero f h = let e : m ≡ 0 = omega arith in rw e (le-refl (sum 0 f))
-sum-first m (suc n) f h = elim (order m (suc n)) [
-  | less o ↦ omega (arith, sum-first m n f (omega arith))
-  | same e ↦ rw e (le-refl (sum (suc n) f))
-  | more o ↦ absurd (omega arith)
-]
 
 -- the contexts shorter than j have got one more
 pub record Walked (d i a : ℕ) (r : List ℕ) (n : ℕ) (l₀ : List ℕ) (l : List ℕ) (key weight m j : ℕ) : Type 0 where
@@ -80,7 +69,7 @@ module _ (d i a : ℕ) (r : List ℕ) (n : ℕ) (l₀ : List ℕ) (q : Feedable 
     unfolding sum
     walk-asks =
         let cell = cell-is i a (q .sample) in
-        let part : sum (suc j) (lacks d r (records n l₀)) ≤ missing d r (records n l₀) = sum-first (suc j) (suc (length r)) (lacks d r (records n l₀)) (omega arith) in
+        let part : sum (suc j) (lacks d r (records n l₀)) ≤ missing d r (records n l₀) = sum-longer (suc j) (suc (length r)) (lacks d r (records n l₀)) (omega arith) in
         let yet = ap (λ (t : Bool). one (not t)) held-now in
         record {
           fits = omega (arith, q .room, w .long, count-now, part, yet);

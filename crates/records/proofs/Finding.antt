@@ -7,13 +7,13 @@ use native.Mathlib.Nat.{not-suc-le-zero, le-of-suc-le-suc}
 use native.Mathlib.Omega.{arith}
 use borrow.Author.Tests.{ltb-true, ltb-false, eqb-true, eqb-false, eq-eqb, ne-eqb}
 use lib.Dec.{T, ltb, eqb, eqb→eq}
-use lib.ListN.{length, getD, List·getD-map, length-map}
+use lib.ListN.{length, getD}
 use Rattle.numbers.proofs.Tests.{is-true, choose, or-left, or-right}
 use Rattle.numbers.proofs.Orders.{eq→eqb}
 use Rattle.records.specs.Records.{width, records, key, keys, rises, blank, lookup}
 use Rattle.records.specs.Held.{rank, held, Rising}
 use Rattle.records.proofs.Parts.{length-parts}
-use Rattle.records.proofs.Rising.{rises-first, rises-rest, rises-bound, key-at}
+use Rattle.records.proofs.Rising.{rises-first, rises-rest, key-bound, key-at}
 
 -- ---- what no record has
 
@@ -42,6 +42,20 @@ lookup-each P k [] b h = b
 lookup-each P k (r ∷ rs) b h =
     choose P (eqb (key r) k) r (lookup k rs) (h 0 (omega arith)) (lookup-each P k rs b (λ p l. h (suc p) (omega arith)))
 
+-- what holds of each record with a key that is held holds of what stands under it
+pub lookup-held : (P : List ℕ → Type 0) (k : ℕ) (rs : List (List ℕ)) → ((p : ℕ) → p < length rs → key (getD rs p []) ≡ k → P (getD rs p []))
+    → T (held k rs) → P (lookup k rs)
+unfolding held lookup
+lookup-held P k [] each h = absurd h
+lookup-held P k (r ∷ rs) each h = go (eqb (key r) k) refl h (lookup-held P k rs (λ p l. each (suc p) (omega arith)))
+  where
+    go : (t : Bool) → eqb (key r) k ≡ t → T (t || held k rs) → (T (held k rs) → P (lookup k rs)) → P (cond t r (lookup k rs))
+    go true e u ih = each 0 (omega arith) (eqb-true (key r) k e)
+    go false e u ih = ih u
+
+pub key-lookup : (k : ℕ) (rs : List (List ℕ)) → T (held k rs) → key (lookup k rs) ≡ k
+key-lookup k rs h = lookup-held (λ r. key r ≡ k) k rs (λ p l e. e) h
+
 -- ---- the places of what is held
 
 -- a place at which a record has the key
@@ -67,17 +81,22 @@ place-held k p [] h e = absurd (not-suc-le-zero h)
 place-held k zero (r ∷ rs) h e = or-left (eqb (key r) k) (held k rs) (eq→eqb (key r) k e)
 place-held k (suc p) (r ∷ rs) h e = or-right (eqb (key r) k) (held k rs) (place-held k p rs (le-of-suc-le-suc h) e)
 
+-- the first record, and those after it
+pub lookup-head : (r : List ℕ) (rs : List (List ℕ)) → lookup (key r) (r ∷ rs) ≡ r
+unfolding lookup
+lookup-head r rs = rw (eq-eqb (key r) (key r) refl)
+
+pub lookup-tail : (k : ℕ) (r : List ℕ) (rs : List (List ℕ)) → key r < k → lookup k (r ∷ rs) ≡ lookup k rs
+unfolding lookup
+lookup-tail k r rs h = rw (ne-eqb (key r) k (λ e. omega arith))
+
 -- under the key of a place stands the record there
 pub lookup-place : (lo p : ℕ) (rs : List (List ℕ)) → T (rises lo (keys rs)) → p < length rs → lookup (key (getD rs p [])) rs ≡ getD rs p []
-unfolding lookup
 lookup-place lo p [] up h = absurd (not-suc-le-zero h)
-lookup-place lo zero (r ∷ rs) up h = rw (eq-eqb (key r) (key r) refl)
+lookup-place lo zero (r ∷ rs) up h = lookup-head r rs
 lookup-place lo (suc p) (r ∷ rs) up h =
     let rest = rises-rest lo (key r) (keys rs) up in
-    let in-keys : p < length (keys rs) = rw (length-map rs key) (le-of-suc-le-suc h) in
-    let there : getD (keys rs) p 0 ≡ key (getD rs p []) = List·getD-map key rs p [] in
-    let later = rises-bound (suc (key r)) (keys rs) p rest in-keys in
-    rw (ne-eqb (key r) (key (getD rs p [])) (λ e. omega arith)) (lookup-place (suc (key r)) p rs rest (le-of-suc-le-suc h))
+    lookup-tail (key (getD rs p [])) r rs (key-bound (suc (key r)) rs p rest (le-of-suc-le-suc h)) ∙ lookup-place (suc (key r)) p rs rest (le-of-suc-le-suc h)
 
 -- ---- what stands at the rank of a key
 

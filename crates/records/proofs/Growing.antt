@@ -14,13 +14,13 @@ use Rattle.numbers.proofs.Sums.{sum-mono, sum-cong, sum-same}
 use Rattle.contexts.specs.Keys.{keyOf, deskOf}
 use Rattle.contexts.specs.Sitting.{Sample}
 use Rattle.contexts.proofs.KeyOrder.{Within, deskOf-key}
+use Rattle.contexts.proofs.Followed.{context-take}
 use Rattle.records.specs.Held.{held, keep, ofDesk, Rising}
 use Rattle.records.specs.Bumped.{cellOf, bumped}
 use Rattle.records.specs.Fed.{fedTo, fed, missing}
 use Rattle.records.proofs.Bumping.{held-bumped, length-bumped}
 use Rattle.records.proofs.Counting.{cell-past}
 use Rattle.records.proofs.Keeping.{rises-keep, held-keep, keep-bumped-other, keep-bumped-own}
-use Rattle.records.proofs.Followed.{context-take}
 use Rattle.records.proofs.Feeding.{rising-fedTo, held-fedTo}
 
 -- whether the context of length j is missing, as a number

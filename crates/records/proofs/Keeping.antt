@@ -7,6 +7,8 @@ use native.Mathlib.Omega.{arith}
 use borrow.Author.Tests.{eqb-true}
 use lib.Dec.{T, eqb}
 use lib.ListN.{length}
+use Rattle.numbers.specs.Every.{all}
+use Rattle.numbers.proofs.Tests.{both, left, right, of-true}
 use Rattle.numbers.proofs.Orders.{less, same, more, order}
 use Rattle.records.specs.Records.{key, keys, rises, blank, lookup}
 use Rattle.records.specs.Held.{held, keep, Wide}
@@ -35,6 +37,16 @@ module _ (p : ℕ → Bool) where
       go : (t : Bool) → Wide (keep p rs) → Wide (cond t (r ∷ keep p rs) (keep p rs))
       go true h = (w .0, h)
       go false h = h
+
+  -- each of them passes it, and what all passed
+  pub keep-all : (g : List ℕ → Bool) (rs : List (List ℕ)) → T (all g rs) → T (all (λ r. g r && p (key r)) (keep p rs))
+  unfolding keep all
+  keep-all g [] t = tt
+  keep-all g (r ∷ rs) t = go (p (key r)) refl (keep-all g rs (right (g r) (all g rs) t))
+    where
+      go : (b : Bool) → p (key r) ≡ b → T (all (λ r. g r && p (key r)) (keep p rs)) → T (all (λ r. g r && p (key r)) (cond b (r ∷ keep p rs) (keep p rs)))
+      go true e h = both (g r && p (key r)) _ (both (g r) (p (key r)) (left (g r) (all g rs) t) (of-true (p (key r)) e)) h
+      go false e h = h
 
   -- what is held of it: what the test keeps
   pub held-keep : (k : ℕ) (rs : List (List ℕ)) → held k (keep p rs) ≡ (p k && held k rs)

@@ -14,9 +14,9 @@ use Rattle.numbers.proofs.Tests.{one-le}
 use Rattle.contexts.specs.Keys.{deskSpan, keyOf}
 use Rattle.contexts.proofs.Strings.{context-length}
 use Rattle.contexts.proofs.KeyOrder.{digits-nil, contextKey-lt, key-step}
+use Rattle.contexts.proofs.Followed.{context-take}
 use Rattle.records.specs.Held.{held}
 use Rattle.records.specs.Fed.{Askable}
-use Rattle.records.proofs.Followed.{context-take}
 use Rattle.records.proofs.Growing.{lacks}
 
 -- ---- the key of the next context

@@ -10,7 +10,6 @@ pub mod Desks
 pub mod Shifting
 pub mod Inserting
 pub mod Removing
-pub mod Followed
 pub mod Feeding
 pub mod Growing
 pub mod KeyWalk

@@ -2,22 +2,17 @@
 use mathlib.Core.Path.{_≡_, refl, sym, ap, ap₂, _∙_}
 use mathlib.Core.List.{List, [], _∷_, _++_, append-assoc}
 use Prim.Native.Nat.{ℕ, zero, suc, _+_, _-_, _*_, _≤_, _<_}
-use native.Mathlib.Nat.{not-suc-le-zero, zero-add, suc-add, mul-zero, le-of-suc-le-suc, sub-zero, zero-sub, suc-sub-suc, le-refl, mul-add, mul-le-mul-left, add-sub-of-le}
+use native.Mathlib.Nat.{not-suc-le-zero, zero-add, suc-add, mul-zero, le-of-suc-le-suc, le-refl, mul-add, mul-le-mul-left, add-sub-of-le}
 use native.Mathlib.Omega.{arith}
 use lib.ListN.{length, take, drop, getD, set, length-drop, take-append-drop}
-use lib.Seq.{take-nil, take-all, length-take-le, take-append-le, drop-append-le, drop-drop, take-take, take-set-lt, drop-set-lt, take-set-le, drop-set-add, getD-take, getD-drop}
+use lib.Seq.{take-all, length-take-le, take-append-le, drop-append-le, drop-drop, take-take, take-set-lt, drop-set-lt, take-set-le, drop-set-add}
+use Rattle.numbers.proofs.Lists.{drop-take, getD-part}
 use Rattle.records.specs.Records.{width, parts, records}
 use Rattle.records.specs.Held.{Wide}
 
 empty : (a : List ℕ) → length a ≡ 0 → a ≡ []
 empty [] e = refl
 empty (x ∷ xs) e = absurd (omega arith)
-
-pub drop-take : (w k : ℕ) (l : List ℕ) → drop w (take k l) ≡ take (k - w) (drop w l)
-drop-take zero k l = rw (sub-zero k)
-drop-take (suc w) zero l = rw (zero-sub (suc w))
-drop-take (suc w) (suc k) [] = sym (take-nil (suc k - suc w))
-drop-take (suc w) (suc k) (x ∷ l) = rw (suc-sub-suc k w) (drop-take w k l)
 
 module _ (w : ℕ) where
   pub length-parts : (n : ℕ) (l : List ℕ) → length (parts w n l) ≡ n
@@ -36,7 +31,7 @@ module _ (w : ℕ) where
 
   -- number j of part i
   pub cell-at : (n i j : ℕ) (l : List ℕ) → i < n → j < w → getD (getD (parts w n l) i []) j 0 ≡ getD l (w * i + j) 0
-  cell-at n i j l hi hj = rw (part-at n i l hi) (getD-take w (drop (w * i) l) j 0 hj ∙ getD-drop (w * i) l j 0)
+  cell-at n i j l hi hj = rw (part-at n i l hi) (getD-part w (w * i) l j 0 hj)
 
   -- a list that is cut between two parts
   pub parts-append : (n m : ℕ) (a b : List ℕ) → length a ≡ w * n → parts w (n + m) (a ++ b) ≡ parts w n a ++ parts w m b

@@ -5,11 +5,12 @@ use Prim.Native.Nat.{ℕ, _+_, _-_, _*_, _≤_}
 use native.Mathlib.Omega.{arith}
 use lib.ListN.{length, take, drop, length-drop}
 use lib.Seq.{length-take-le, drop-drop}
+use Rattle.numbers.proofs.Lists.{drop-take}
 use Rattle.contexts.specs.Keys.{deskSpan}
 use Rattle.records.specs.Records.{width, records, keys}
 use Rattle.records.specs.Held.{rank, without, Standing}
 use Rattle.records.specs.Bumped.{Written}
-use Rattle.records.proofs.Parts.{parts-remove, drop-take}
+use Rattle.records.proofs.Parts.{parts-remove}
 use Rattle.records.proofs.Lent.{past-kept}
 use Rattle.records.proofs.Desks.{without-cut}
 

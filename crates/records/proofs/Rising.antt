@@ -45,6 +45,25 @@ rises-bound lo (k ∷ ks) (suc i) up h =
     let later = rises-bound (suc k) ks i (rises-rest lo k ks up) (le-of-suc-le-suc h) in
     omega arith
 
+-- the same of records by their places; and of two records the earlier has the smaller key
+pub key-bound : (lo : ℕ) (rs : List (List ℕ)) (i : ℕ) → T (rises lo (keys rs)) → i < length rs → lo ≤ key (getD rs i [])
+key-bound lo rs i up h = rw (← List·getD-map key rs i []) (rises-bound lo (keys rs) i up (rw (length-map rs key) h))
+
+pub rises-apart : (lo : ℕ) (rs : List (List ℕ)) (i j : ℕ) → T (rises lo (keys rs)) → i < j → j < length rs → key (getD rs i []) < key (getD rs j [])
+rises-apart lo [] i j up h g = absurd (not-suc-le-zero g)
+rises-apart lo (r ∷ rs) i zero up h g = absurd (not-suc-le-zero h)
+rises-apart lo (r ∷ rs) zero (suc j) up h g = key-bound (suc (key r)) rs j (rises-rest lo (key r) (keys rs) up) (le-of-suc-le-suc g)
+rises-apart lo (r ∷ rs) (suc i) (suc j) up h g = rises-apart (suc (key r)) rs i j (rises-rest lo (key r) (keys rs) up) (le-of-suc-le-suc h) (le-of-suc-le-suc g)
+
+-- .. and the other way round
+pub apart-rises : (lo : ℕ) (rs : List (List ℕ)) → ((i : ℕ) → i < length rs → lo ≤ key (getD rs i []))
+    → ((i j : ℕ) → i < j → j < length rs → key (getD rs i []) < key (getD rs j [])) → T (rises lo (keys rs))
+unfolding rises
+apart-rises lo [] low apart = tt
+apart-rises lo (r ∷ rs) low apart =
+    rises-cons lo (key r) (keys rs) (low 0 (omega arith))
+    (apart-rises (suc (key r)) rs (λ i h. apart 0 (suc i) (omega arith) (omega arith)) (λ i j h g. apart (suc i) (suc j) (omega arith) (omega arith)))
+
 -- ---- the place of a key
 
 cond-le : (t : Bool) (r n : ℕ) → suc r ≤ n → cond t (suc r) zero ≤ n

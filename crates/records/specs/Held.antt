@@ -4,12 +4,12 @@ use mathlib.Core.Path.{_≡_}
 use mathlib.Core.Bool.{Bool, false, cond, not, _||_}
 use mathlib.Core.List.{List, [], _∷_}
 use Prim.Native.Nat.{ℕ, zero, suc, _*_, _≤_, _<_}
-use lib.ListN.{length, take, drop, getD}
+use lib.ListN.{length, take, drop}
 use lib.Dec.{T, ltb, eqb}
 use Rattle.numbers.specs.Limits.{desks}
 use Rattle.contexts.specs.Keys.{deskOf}
 use Rattle.contexts.specs.Sitting.{Sample, first, second}
-use Rattle.records.specs.Records.{width, records, key, keys, countsOf, rises, lookup}
+use Rattle.records.specs.Records.{width, records, key, keys, countsOf, countOf, rises, lookup}
 
 -- where a key stands among rising keys, or would stand: how many of them come before it
 unfoldable pub rank : ℕ → List ℕ → ℕ
@@ -31,7 +31,7 @@ tableOf r = countsOf first r ∷ countsOf second r ∷ []
 
 -- N(s,a) of a sample as it stands under a key, and 0 where no record has it
 abbrev pub countAt : ℕ → Sample → ℕ → List (List ℕ) → ℕ
-countAt k i a rs = getD (countsOf i (lookup k rs)) a 0
+countAt k i a rs = countOf i (lookup k rs) a
 
 -- the records whose key passes a test
 unfoldable pub keep : (ℕ → Bool) → List (List ℕ) → List (List ℕ)

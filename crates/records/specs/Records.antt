@@ -37,6 +37,10 @@ startOf second = 9
 abbrev pub countsOf : Sample → List ℕ → List ℕ
 countsOf i r = take mostSymbols (drop (startOf i) r)
 
+-- .. and its count of one symbol
+abbrev pub countOf : Sample → List ℕ → ℕ → ℕ
+countOf i r a = getD (countsOf i r) a 0
+
 -- the keys rise strictly, and none is below lo
 unfoldable pub rises : ℕ → List ℕ → Bool
 rises lo [] = true

@@ -1,24 +1,23 @@
 -- What stands for two strings holds their contexts, and reports and charts as their sitting does. Assumes nothing.
 use Prim.Native.Nat.{ℕ, _+_}
-use mathlib.Core.Path.{_≡_, refl, sym, ap, ap₂, _∙_}
+use mathlib.Core.Path.{_≡_, refl, ap, ap₂, _∙_}
 use mathlib.Core.List.{List, [], _∷_, map, List·Memᴰ, List·Memᴰ·head, List·Memᴰ·tail}
 use lib.Dec.{T, ltb}
 use lib.IntN.{ℤ}
 use Rattle.numbers.specs.Sum.{one}
 use Rattle.numbers.proofs.Sums.{sum-cong}
 use Rattle.contexts.specs.Context.{isContext}
-use Rattle.contexts.specs.Strings.{total}
-use Rattle.contexts.specs.Sitting.{Sample, first, second, Sitting, Progress, sat, totalIn, isHeld, contextsHeld, eight}
+use Rattle.contexts.specs.Sitting.{Sample, first, second, Sitting, Progress, sat, totalIn, isHeld, contextsHeld}
 use Rattle.contexts.proofs.Totalling.{total-within}
 use Rattle.estimate.specs.Trees.{Kind, shared, own}
 use Rattle.estimate.specs.Score.{counts}
 use Rattle.estimate.specs.Recursion.{estimateOf}
 use Rattle.estimate.proofs.Agreeing.{same-estimate, same-score}
 use Rattle.rows.specs.Members.{Member, members}
-use Rattle.rows.specs.Rows.{Row, rowOf, rowsOf, reportOf}
+use Rattle.rows.specs.Rows.{Row, rowOf, rowsOf}
 use Rattle.rows.proofs.Holding.{of-members}
 use Rattle.replay.specs.Room.{Opening}
-use Rattle.rules.specs.Report.{Reported, report}
+use Rattle.rules.specs.Report.{report}
 use Rattle.rules.specs.Strings.{sittingFor, StandsFor}
 
 module _ (o : Opening) (w : Sample → List ℕ) (p : Progress) (S : StandsFor o w p) where

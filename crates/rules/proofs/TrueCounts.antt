@@ -1,9 +1,9 @@
 -- TRUE COUNTS: an open sitting's counts are those of its own two strings, whatever the neighbours do. Assumes nothing.
-use Prim.Native.Nat.{ℕ, zero, suc, _+_, _≤_, _<_}
+use Prim.Native.Nat.{ℕ, zero, suc, _+_, _<_}
 use native.Mathlib.Omega.{arith}
 use mathlib.Core.Path.{_≡_, refl, sym, ap, subst, _∙_}
 use mathlib.Core.Bool.{Bool, true, false, cond, _&&_, _||_}
-use mathlib.Core.List.{List, [], _∷_, _++_, foldl, foldl-append}
+use mathlib.Core.List.{List, [], _∷_, foldl-append}
 use lib.ListN.{length, take}
 use lib.Seq.{take-nil, take-take}
 use lib.Dec.{T, eqb, leb, ltb}
@@ -14,6 +14,7 @@ use Rattle.contexts.specs.Context as string
 use Rattle.contexts.specs.Counts.{N}
 use Rattle.contexts.specs.Sitting.{Sample, first, second, sameSample, Progress, sampleOf}
 use Rattle.contexts.proofs.Strings.{context-cons, context-length}
+use Rattle.contexts.proofs.Followed.{begins-recent}
 use Rattle.replay.specs.Room.{Making, Opening, Desk, closed, opened, new}
 use Rattle.replay.specs.Table.{NoneApplies}
 use Rattle.replay.specs.Machine.{Call}
@@ -25,13 +26,6 @@ use Rattle.rules.specs.Rules.{Ask, feed, reporting, charting, rules, lin
 use Rattle.rules.specs.Strings.{push, longer, stringsOf, StandsFor, OfOwnStrings}
 
 -- ---- strings and their recent symbols
-
--- a context no longer than D begins a string where it begins its last D symbols
-begins-recent : (D : ℕ) (s w : List ℕ) → length s ≤ D → string.begins s (take D w) ≡ string.begins s w
-begins-recent D [] w l = refl
-begins-recent zero (x ∷ s) w l = absurd (omega arith)
-begins-recent (suc D) (x ∷ s) [] l = refl
-begins-recent (suc D) (x ∷ s) (y ∷ w) l = ap (λ (z : Bool). eqb x y && z) (begins-recent D s w (omega arith))
 
 take-cons : (D a : ℕ) (w : List ℕ) → take D (a ∷ take D w) ≡ take D (a ∷ w)
 take-cons zero a w = refl

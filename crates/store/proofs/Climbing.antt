@@ -7,21 +7,25 @@ use native.Mathlib.Omega.{arith}
 use lib.Dec.{T, ltb, leb, eqb, ltb→lt, lt→ltb, le→leb, eqb→eq}
 use lib.ListN.{length, getD}
 use Rattle.numbers.specs.Limits.{deepest, desks}
-use Rattle.numbers.proofs.Tests.{bool-ext, both, left, right, or-rest}
+use Rattle.numbers.specs.Every.{all}
+use Rattle.numbers.proofs.Tests.{T?, bool-ext, both, left, right, or-rest, is-false}
 use Rattle.numbers.proofs.Orders.{less, same, more, order, eq→eqb}
-use Rattle.contexts.specs.Context.{isContext}
-use Rattle.contexts.specs.Keys.{keyOf, deskOf, contextOf}
+use Rattle.numbers.proofs.Every.{all-at, all-of}
+use Rattle.contexts.specs.Context.{isContext, parentOf}
+use Rattle.contexts.specs.Keys.{keyOf, deskOf, contextOf, lenOf, weight}
 use Rattle.contexts.specs.Sitting.{Sample, first, second}
 use Rattle.contexts.proofs.Strings.{context-length}
+use Rattle.contexts.proofs.Oldest.{length-snoc, context-snoc, oldest-below}
+use Rattle.contexts.proofs.Digits.{ends-short, Ends, contextOf-within, contextOf-length, key-back, key-ends, key-length}
 use Rattle.records.specs.Records.{key, lookup}
+use Rattle.records.specs.Held.{held}
+use Rattle.records.proofs.Finding.{lookup-absent, lookup-held, key-lookup}
+use Rattle.records.proofs.Counting.{total-blank}
 use Rattle.store.specs.Layout.{isOpen, symbolsAt, depthAt, totalOf}
-use Rattle.store.specs.Sound.{all, eachSample, keyOk, sampleOk, tableOk, parentOf, parentKey, parentOk, recordOk}
-use Rattle.store.specs.Walk.{lenOf, weight, oldestOk, endsOk, keyFits, ownOk}
-use Rattle.store.proofs.Many.{all-at, all-of, sample-at}
-use Rattle.store.proofs.Strings.{length-snoc, context-snoc, oldest-below}
-use Rattle.store.proofs.Digits.{ends-short, Ends, contextOf-within, contextOf-length, key-back, key-ends, key-length}
+use Rattle.store.specs.Sound.{eachSample, keyOk, sampleOk, tableOk, parentKey, parentOk, recordOk}
+use Rattle.store.specs.Walk.{oldestOk, endsOk, keyFits, ownOk}
+use Rattle.store.proofs.Many.{sample-at}
 use Rattle.store.proofs.Parents.{above}
-use Rattle.store.proofs.Rising.{Found, nothing, there, found, blank-total}
 use Rattle.store.proofs.Walking.{fitOk, own-key}
 
 -- ---- a record's table
@@ -47,10 +51,13 @@ either-seen s rs r t u = elim (order 0 (totalOf first r)) [
 ]
 
 -- a key at which something was counted has its record
-pub counted-there : (k : ℕ) (rs : List (List ℕ)) → 0 < totalOf first (lookup k rs) + totalOf second (lookup k rs)
-    → (f : Found k rs) → (P : List ℕ → Type 0) → ((i : ℕ) → i < length rs → P (getD rs i [])) → P (lookup k rs) × (key (lookup k rs) ≡ k)
-counted-there k rs h (nothing e) P all = absurd (omega (arith, ap (totalOf first) e, ap (totalOf second) e, blank-total first k, blank-total second k))
-counted-there k rs h (there i l e q) P all = (subst P (sym e) (all i l), ap key e ∙ q)
+counted-held : (k : ℕ) (rs : List (List ℕ)) → 0 < totalOf first (lookup k rs) + totalOf second (lookup k rs) → T (held k rs)
+counted-held k rs h = elim (T? (held k rs)) [
+  | yes t ↦ t
+  | no n ↦
+      let e = lookup-absent k rs (is-false (held k rs) n) in
+      absurd (omega (arith, ap (totalOf first) e, ap (totalOf second) e, total-blank first k, total-blank second k))
+]
 
 -- ---- from the pass's test to the declared one
 
@@ -71,10 +78,12 @@ module _ (s : List ℕ) (rs : List (List ℕ)) (good : T (all (fitOk s rs) rs)) 
       let short = ends-short k (fits .ends) in
       let a = above k (omega arith) short (fits .ends) in
       let seen = either-seen s rs r (right (keyFits s k) _ own) (right (ownOk s r) _ t) in
-      let up = counted-there (parentKey k) rs seen (found (parentKey k) rs) (λ x. T (fitOk s rs x)) (λ i h. all-at (fitOk s rs) rs i [] good h) in
-      let ih = climb l (lookup (parentKey k) rs) (up .0) (ap lenOf (up .1) ∙ omega (arith, a .shorter)) in
+      let there = counted-held (parentKey k) rs seen in
+      let up : key (lookup (parentKey k) rs) ≡ parentKey k = key-lookup (parentKey k) rs there in
+      let fit = lookup-held (λ x. T (fitOk s rs x)) (parentKey k) rs (λ i h e. all-at (fitOk s rs) rs i [] good h) there in
+      let ih = climb l (lookup (parentKey k) rs) fit (ap lenOf up ∙ omega (arith, a .shorter)) in
       let here : T (isContext (symbolsAt s (deskOf (parentKey k))) (depthAt s (deskOf (parentKey k))) (contextOf (parentKey k))) =
-      subst (λ (m : ℕ). T (isContext (symbolsAt s (deskOf m)) (depthAt s (deskOf m)) (contextOf m))) (up .1) ih in
+      subst (λ (m : ℕ). T (isContext (symbolsAt s (deskOf m)) (depthAt s (deskOf m)) (contextOf m))) up ih in
       let desk : T (isContext A D (contextOf (parentKey k))) = subst (λ (d : ℕ). T (isContext (symbolsAt s d) (depthAt s d) (contextOf (parentKey k)))) (a .desk) here in
       let parent : T (isContext A D (parentOf (contextOf k))) = subst (λ (c : List ℕ). T (isContext A D c)) (a .context) desk in
       let below : a .symbol < A = subst (λ (x : ℕ). x < A) (a .reads) (ltb→lt _ A (fits .oldest)) in

@@ -9,23 +9,25 @@ use lib.ListN.{length, getD}
 use Rattle.numbers.specs.Limits.{mostSymbols, deepest, desks}
 use Rattle.numbers.proofs.Tests.{T?, both, or-left, or-right, of-true}
 use Rattle.numbers.proofs.Orders.{less, same, more, order, eq→eqb}
-use Rattle.contexts.specs.Context.{isContext}
+use Rattle.numbers.proofs.Every.{every-of, all-of}
+use Rattle.contexts.specs.Context.{isContext, parentOf}
 use Rattle.contexts.specs.Keys.{keyOf, deskOf, contextOf}
-use Rattle.contexts.specs.Sitting.{Sample, first, second}
+use Rattle.contexts.specs.Sitting.{Sample, first, second, sumOf}
 use Rattle.contexts.proofs.Strings.{begins-take, context-more}
 use Rattle.contexts.proofs.KeyOrder.{Within, deskOf-key, contextOf-key}
 use Rattle.records.specs.Records.{key, keys, countsOf, rises, lookup}
-use Rattle.store.specs.Layout.{used, isOpen, symbolsAt, depthAt, sizeAt, slotsAt, recordsIn, eightSum, totalOf}
-use Rattle.store.specs.Sound.{below, eachSample, deskOk, heldBy, keyOk, quietFrom, countsOk, sampleOk, tableOk, parentOf, parentOk, recordOk, soundb}
+use Rattle.records.proofs.Rising.{apart-rises}
+use Rattle.records.proofs.Finding.{lookup-place}
+use Rattle.store.specs.Layout.{used, isOpen, symbolsAt, depthAt, sizeAt, slotsAt, recordsIn, totalOf}
+use Rattle.store.specs.Sound.{below, eachSample, deskOk, heldBy, keyOk, quietFrom, countsOk, sampleOk, tableOk, parentOk, recordOk, soundb}
 use Rattle.store.specs.Plain.{Open, ContextAt, recordFor, totalAt, recordAt, Sound}
-use Rattle.store.proofs.Many.{every-of, all-of, sample-of}
+use Rattle.store.proofs.Many.{sample-of}
 use Rattle.store.proofs.Parts.{records-length}
-use Rattle.store.proofs.Rising.{apart-rises, lookup-at}
 use Rattle.store.proofs.Desks.{desk-shut, stands-desk}
 use Rattle.store.proofs.Passing.{passes}
 use Rattle.store.proofs.Standing.{slots-long}
 
-stands-counts : (A n : ℕ) (part : List ℕ) → ((a : ℕ) → A ≤ a → getD part a 0 ≡ 0) → eightSum part ≤ n → T (countsOk A n part)
+stands-counts : (A n : ℕ) (part : List ℕ) → ((a : ℕ) → A ≤ a → getD part a 0 ≡ 0) → sumOf part ≤ n → T (countsOk A n part)
 unfolding countsOk quietFrom
 stands-counts A n part quiet within =
     both (quietFrom A part) _
@@ -34,7 +36,7 @@ stands-counts A n part quiet within =
       | same e ↦ or-right (ltb a A) (eqb (getD part a 0) 0) (eq→eqb (getD part a 0) 0 (quiet a (omega arith)))
       | more o ↦ or-right (ltb a A) (eqb (getD part a 0) 0) (eq→eqb (getD part a 0) 0 (quiet a (omega arith)))
     ]))
-    (le→leb (eightSum part) n within)
+    (le→leb (sumOf part) n within)
 
 module _ (s : List ℕ) (h : Sound s) where
   inside : (j : ℕ) → j < length (recordsIn s) → j < used s
@@ -108,7 +110,7 @@ module _ (s : List ℕ) (h : Sound s) where
   record-at : T (rises 0 (keys (recordsIn s))) → (j : ℕ) → j < length (recordsIn s) → T (recordOk s (recordsIn s) (recordAt s j))
   record-at up j l =
       let n = h .each-counts j (inside j l) in
-      let own : recordFor s (n .desk) (n .context) ≡ recordAt s j = ap (λ (k : ℕ). lookup k (recordsIn s)) (sym (n .under-key)) ∙ lookup-at 0 (recordsIn s) j up l in
+      let own : recordFor s (n .desk) (n .context) ≡ recordAt s j = ap (λ (k : ℕ). lookup k (recordsIn s)) (sym (n .under-key)) ∙ lookup-place 0 j (recordsIn s) up l in
       record-passes (recordAt s j) (n .desk) (n .context) (n .at-open) (n .is-context) (n .under-key) own (n .seen)
 
 -- THEOREM. A store that meets document 01's conditions, and what the test asks beyond them, passes the test

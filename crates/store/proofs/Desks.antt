@@ -7,10 +7,11 @@ use native.Mathlib.Omega.{arith}
 use lib.Dec.{T, leb, leb→le, le→leb}
 use lib.ListN.{take, drop}
 use Rattle.numbers.specs.Limits.{fewestSymbols, mostSymbols, deepest, longest}
+use Rattle.numbers.specs.Every.{all}
 use Rattle.numbers.proofs.Tests.{both, left, right, is-true, is-false}
 use Rattle.contexts.specs.Sitting.{Sample}
 use Rattle.store.specs.Layout.{isOpen, symbolsAt, depthAt, reserveAt, sizeAt, slotsAt}
-use Rattle.store.specs.Sound.{all, below, eachSample, limitsOk, deskTest}
+use Rattle.store.specs.Sound.{below, eachSample, limitsOk, deskTest}
 use Rattle.store.proofs.Many.{sample-at, sample-of}
 
 -- what the test says of an open desk with so many records

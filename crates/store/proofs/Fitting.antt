@@ -9,17 +9,19 @@ use lib.Dec.{T, ltb, ltb→lt, lt→ltb}
 use lib.ListN.{length, take, length-take}
 use Rattle.numbers.specs.Limits.{desks}
 use Rattle.numbers.specs.Sum.{sum}
+use Rattle.numbers.specs.Every.{all}
 use Rattle.numbers.proofs.Tests.{T?, both, left, right, is-true, is-false}
 use Rattle.numbers.proofs.Sums.{sum-cong}
+use Rattle.numbers.proofs.Every.{all-take}
 use Rattle.contexts.specs.Context.{isContext}
 use Rattle.contexts.specs.Sitting.{Sample, Progress}
 use Rattle.contexts.proofs.Strings.{context-cons}
+use Rattle.contexts.proofs.Oldest.{context-parent}
 use Rattle.replay.specs.Room.{Opening, closed, opened, reserved}
 use Rattle.store.specs.Layout.{isOpen, symbolsAt, depthAt, sizeAt, slotsAt}
-use Rattle.store.specs.Sound.{all, below, reservedAt, soundb}
+use Rattle.store.specs.Sound.{below, reservedAt, soundb}
 use Rattle.store.specs.Plain.{Open}
 use Rattle.store.specs.Meaning.{openingAt, progressAt, deskAt, meaning, SittingFits, Fits}
-use Rattle.store.proofs.Strings.{context-parent}
 use Rattle.store.proofs.Passing.{Passed, passed, desk-passed, context-counts}
 use Rattle.store.proofs.Standing.{slots-long, seen-parent}
 use Rattle.store.proofs.Holding.{total-outside, total-context, held-kept}
@@ -39,12 +41,6 @@ open? s d = elim (T? (ltb d desks && isOpen s d)) [
 ]
 
 -- ---- recent symbols
-
-all-take : (f : ℕ → Bool) (n : ℕ) (l : List ℕ) → T (all f l) → T (all f (take n l))
-unfolding all
-all-take f zero l t = tt
-all-take f (suc n) [] t = tt
-all-take f (suc n) (x ∷ l) t = both (f x) (all f (take n l)) (left (f x) (all f l) t) (all-take f n l (right (f x) (all f l) t))
 
 context-of : (A d : ℕ) (l : List ℕ) → T (all (below A) l) → length l ≤ d → T (isContext A d l)
 unfolding all isContext

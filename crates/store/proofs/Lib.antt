@@ -1,8 +1,5 @@
 pub mod Many
-pub mod Strings
-pub mod Digits
 pub mod Parents
-pub mod Rising
 pub mod Marks
 pub mod Walking
 pub mod Climbing
@@ -14,7 +11,6 @@ pub mod Turn
 pub mod Passing
 pub mod Standing
 pub mod Converse
-pub mod Keeping
 pub mod Totalling
 pub mod Holding
 pub mod Fitting

@@ -1,29 +1,31 @@
 -- A desk's meaning depends on its own numbers in the header and its own records alone. Assumes nothing.
-use mathlib.Core.Path.{_≡_, sym, ap, ap₂, _∙_, subst, fun-ext}
+use mathlib.Core.Path.{_≡_, sym, ap₂, _∙_, subst, fun-ext}
 use mathlib.Core.Bool.{true, cond}
 use mathlib.Core.List.{List}
 use Prim.Native.Nat.{ℕ, min, _+_, _≤_, _<_}
 use native.Mathlib.Omega.{arith}
+use borrow.Author.Tests.{eq-eqb}
 use lib.Dec.{T, eqb}
-use lib.ListN.{length, take, drop, getD}
-use lib.Seq.{ext-getD, getD-take, getD-drop}
+use lib.ListN.{length, take, getD}
+use lib.Seq.{ext-getD}
 use Rattle.numbers.specs.Limits.{mostSymbols, deepest, desks}
 use Rattle.numbers.proofs.Tests.{T?, is-false}
-use Rattle.numbers.proofs.Orders.{eq→eqb}
+use Rattle.numbers.proofs.Lists.{getD-part}
 use Rattle.contexts.specs.Context.{isContext}
 use Rattle.contexts.specs.Keys.{keyOf, deskOf}
 use Rattle.contexts.specs.Sitting.{Sample, first, second}
 use Rattle.contexts.proofs.Strings.{context-more}
 use Rattle.contexts.proofs.KeyOrder.{Within, deskOf-key}
 use Rattle.records.specs.Records.{lookup}
+use Rattle.records.specs.Held.{countAt, keep, ofDesk}
+use Rattle.records.proofs.Keeping.{lookup-local}
 use Rattle.replay.specs.Room.{opened}
-use Rattle.store.specs.Layout.{headerSize, deskStart, field, recentField, symbolsAt, depthAt, sizeAt, slotsAt, recordsIn, countIn, keep, ofDesk}
+use Rattle.store.specs.Layout.{headerSize, deskStart, field, recentField, symbolsAt, depthAt, sizeAt, slotsAt, recordsIn}
 use Rattle.store.specs.Sound.{soundb}
 use Rattle.store.specs.Plain.{Open}
 use Rattle.store.specs.Meaning.{openingAt, progressAt, deskAt}
 use Rattle.store.proofs.Passing.{passed, desk-passed}
 use Rattle.store.proofs.Standing.{slots-long}
-use Rattle.store.proofs.Keeping.{keep-lookup}
 use Rattle.store.proofs.Fitting.{desk-opened, desk-closed, open?}
 
 -- two stores have one desk's numbers and records
@@ -38,9 +40,6 @@ module _ (s t : List ℕ) (d : ℕ) (e : SameDesk s t d) where
   same-size first = e .fields 4 (omega arith)
   same-size second = e .fields 5 (omega arith)
 
-  slot-at : (u : List ℕ) (at j : ℕ) → j < deepest → getD (take deepest (drop at u)) j 0 ≡ getD u (at + j) 0
-  slot-at u at j l = getD-take deepest (drop at u) j 0 l ∙ getD-drop at u j 0
-
   same-slot : (i : Sample) (j : ℕ) → j < deepest → getD s (deskStart d + recentField i + j) 0 ≡ getD t (deskStart d + recentField i + j) 0
   same-slot first j l =
       let q : deskStart d + 6 + j ≡ deskStart d + (6 + j) = omega arith in
@@ -53,23 +52,19 @@ module _ (s t : List ℕ) (d : ℕ) (e : SameDesk s t d) where
   same-slots l i =
       let m = slots-long s d i l (e .long-before) in
       ext-getD 0 (slotsAt s d i) (slotsAt t d i) (m ∙ sym (slots-long t d i l (e .long-after)))
-      (λ j h. slot-at s (deskStart d + recentField i) j (omega arith) ∙ same-slot i j (omega arith) ∙ sym (slot-at t (deskStart d + recentField i) j (omega arith)))
+      (λ j h. getD-part deepest (deskStart d + recentField i) s j 0 (omega arith) ∙ same-slot i j (omega arith) ∙ sym (getD-part deepest (deskStart d + recentField i) t j 0 (omega arith)))
 
   -- a context of the desk has the same record in both
   same-record : (c : List ℕ) → Within c → lookup (keyOf d c) (recordsIn s) ≡ lookup (keyOf d c) (recordsIn t)
-  same-record c w =
-      let own : T (ofDesk d (keyOf d c)) = eq→eqb (deskOf (keyOf d c)) d (deskOf-key d c w) in
-      sym (keep-lookup (ofDesk d) (keyOf d c) (recordsIn s) own)
-      ∙ ap (lookup (keyOf d c)) (e .kept)
-      ∙ keep-lookup (ofDesk d) (keyOf d c) (recordsIn t) own
+  same-record c w = lookup-local (ofDesk d) (keyOf d c) (recordsIn s) (recordsIn t) (e .kept) (eq-eqb (deskOf (keyOf d c)) d (deskOf-key d c w))
 
   same-count : symbolsAt s d ≤ mostSymbols → depthAt s d ≤ deepest → (i : Sample) (c : List ℕ) (a : ℕ) → progressAt s d .count i c a ≡ progressAt t d .count i c a
   same-count most deep i c a =
       go (T? (isContext (symbolsAt s d) (depthAt s d) c))
-      ∙ ap₂ (λ (A D : ℕ). cond (isContext A D c) (countIn i (lookup (keyOf d c) (recordsIn t)) a) 0) (e .fields 1 (omega arith)) (e .fields 2 (omega arith))
+      ∙ ap₂ (λ (A D : ℕ). cond (isContext A D c) (countAt (keyOf d c) i a (recordsIn t)) 0) (e .fields 1 (omega arith)) (e .fields 2 (omega arith))
     where
       go : Dec (T (isContext (symbolsAt s d) (depthAt s d) c))
-          → progressAt s d .count i c a ≡ cond (isContext (symbolsAt s d) (depthAt s d) c) (countIn i (lookup (keyOf d c) (recordsIn t)) a) 0
+          → progressAt s d .count i c a ≡ cond (isContext (symbolsAt s d) (depthAt s d) c) (countAt (keyOf d c) i a (recordsIn t)) 0
       go (yes x) = rw (same-record c (context-more (symbolsAt s d) mostSymbols (depthAt s d) deepest c most deep x))
       go (no n) = rw (is-false (isContext (symbolsAt s d) (depthAt s d) c) n)
 

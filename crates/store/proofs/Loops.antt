@@ -1,52 +1,19 @@
 -- A turn of each loop of the soundness test, as the code asks for it. Assumes nothing.
-use mathlib.Core.Path.{_≡_, refl, sym, ap, _∙_}
-use mathlib.Core.Bool.{Bool, true, _&&_, _||_, and-true}
-use mathlib.Core.List.{List, [], _∷_}
+use mathlib.Core.Path.{_≡_, sym, ap, _∙_}
+use mathlib.Core.Bool.{Bool, _&&_, _||_, and-true}
+use mathlib.Core.List.{List}
 use Prim.Native.Nat.{ℕ, zero, suc, _+_, _*_, _/_, _≤_, _<_}
-use native.Mathlib.Numerals.{add-one}
 use native.Mathlib.Nat.{div-mul-le-self, div-le-self, mul-le-mul-right, le-trans}
 use native.Mathlib.Omega.{arith}
 use borrow.Author.Tests.{ne-eqb, lt-ltb, le-ltb}
 use lib.Dec.{eqb, ltb}
 use lib.ListN.{length, take, drop, getD}
-use lib.Seq.{drop-cons, drop-length, getD-take, getD-drop}
 use Rattle.numbers.specs.Limits.{mostSymbols}
 use Rattle.numbers.specs.Sum.{sum}
-use Rattle.store.specs.Sound.{every, all}
-
--- ---- sums and tests of the numbers below a bound
-
-pub sum-more : (n : ℕ) (f : ℕ → ℕ) → sum (n + 1) f ≡ sum n f + f n
-unfolding sum
-sum-more n f = ap (λ (m : ℕ). sum m f) (add-one n)
-
-pub sum-none : (f : ℕ → ℕ) → sum 0 f ≡ 0
-unfolding sum
-sum-none f = refl
-
-pub every-more : (n : ℕ) (f : ℕ → Bool) → every (n + 1) f ≡ every n f && f n
-unfolding every
-every-more n f = ap (λ (m : ℕ). every m f) (add-one n)
-
-pub every-none : (f : ℕ → Bool) → every 0 f ≡ true
-unfolding every
-every-none f = refl
-
--- ---- a list, of which the rest decides
-
-pub cons-at : {X : Type 0} (l : List X) (i : ℕ) (d : X) → i < length l → drop i l ≡ getD l i d ∷ drop (i + 1) l
-cons-at l i d h = rw add-one (drop-cons l i d h)
-
-pub none-at : {X : Type 0} (l : List X) (i : ℕ) → i ≡ length l → drop i l ≡ []
-none-at l i e = rw e (drop-length l)
-
-pub all-step : {X : Type 0} (f : X → Bool) (l : List X) (i : ℕ) (d : X) → i < length l → all f (drop i l) ≡ f (getD l i d) && all f (drop (i + 1) l)
-unfolding all
-all-step f l i d h = ap (all f) (cons-at l i d h)
-
-pub all-end : {X : Type 0} (f : X → Bool) (l : List X) (i : ℕ) → i ≡ length l → all f (drop i l) ≡ true
-unfolding all
-all-end f l i e = ap (all f) (none-at l i e)
+use Rattle.numbers.specs.Every.{every}
+use Rattle.numbers.proofs.Sums.{sum-next, sum-none}
+use Rattle.numbers.proofs.Lists.{getD-part}
+use Rattle.numbers.proofs.Every.{every-next, every-none}
 
 -- ---- the eight counts from a place of a record
 
@@ -54,7 +21,7 @@ abbrev pub eightFrom : ℕ → List ℕ → List ℕ
 eightFrom from r = take mostSymbols (drop from r)
 
 pub eight-at : (from : ℕ) (r : List ℕ) (i : ℕ) → i < mostSymbols → getD (eightFrom from r) i 0 ≡ getD r (from + i) 0
-eight-at from r i g = getD-take mostSymbols (drop from r) i 0 g ∙ getD-drop from r i 0
+eight-at from r i g = getD-part mostSymbols from r i 0 g
 
 -- the sum so far
 pub record Summing (r : List ℕ) (from seen i : ℕ) : Type 0 where
@@ -71,7 +38,7 @@ summing-more r from seen i g h b = record {
   place = omega arith;
   long = g .long;
   small = omega (arith, g .small);
-  is = omega (arith, g .is, sum-more i (λ a. getD (eightFrom from r) a 0), eight-at from r i h);
+  is = omega (arith, g .is, sum-next i (λ a. getD (eightFrom from r) a 0), eight-at from r i h);
 }
 
 -- the sum of those from symbol a up, so far: 0 exactly where they are all 0
@@ -100,7 +67,7 @@ module _ (r : List ℕ) (from a seen i : ℕ) (g : Quiet r from a seen i) (h : i
     is =
         zero-both seen (getD r (from + i) 0)
         ∙ rw (g .is)
-        (sym (every-more i (quietAt a (eightFrom from r)) ∙ rw (le-ltb i a u, eight-at from r i h)));
+        (sym (every-next i (quietAt a (eightFrom from r)) ∙ rw (le-ltb i a u, eight-at from r i h)));
   }
 
   pub quiet-skip : i < a → Quiet r from a seen (i + 1)
@@ -108,7 +75,7 @@ module _ (r : List ℕ) (from a seen i : ℕ) (g : Quiet r from a seen i) (h : i
     place = omega arith;
     long = g .long;
     small = omega (arith, g .small);
-    is = g .is ∙ sym (every-more i (quietAt a (eightFrom from r)) ∙ rw (lt-ltb i a u) (and-true (every i (quietAt a (eightFrom from r)))));
+    is = g .is ∙ sym (every-next i (quietAt a (eightFrom from r)) ∙ rw (lt-ltb i a u) (and-true (every i (quietAt a (eightFrom from r)))));
   }
 
 -- a number rounded down to a multiple of 8 · w

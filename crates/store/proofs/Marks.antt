@@ -3,20 +3,25 @@ use mathlib.Core.Path.{_≡_, refl, sym, ap, _∙_}
 use mathlib.Core.Bool.{Bool, true, false, cond, _||_, or-true}
 use mathlib.Core.List.{List, [], _∷_}
 use Prim.Native.Nat.{ℕ, zero, suc, _+_, _≤_, _<_}
+use native.Mathlib.Nat.{le-refl}
 use native.Mathlib.Omega.{arith}
 use borrow.Author.Tests.{eq-eqb, ne-eqb, lt-ltb, ltb-true, ltb-false, eqb-true, eqb-false}
 use lib.Dec.{T, ltb, eqb}
 use lib.ListN.{length, getD, length-set}
 use lib.Seq.{getD-set-same, getD-set-other}
-use Rattle.contexts.specs.Keys.{keyOf, deskOf, contextOf}
+use Rattle.numbers.proofs.Lists.{zeros-at}
+use Rattle.contexts.specs.Context.{parentOf}
+use Rattle.contexts.specs.Keys.{keyOf, deskOf, contextOf, lenOf, weight}
 use Rattle.contexts.specs.Sitting.{Sample}
+use Rattle.contexts.proofs.Digits.{ends-short, Ends, contextOf-length, key-back}
 use Rattle.records.specs.Records.{key, keys, rises, lookup, blank}
+use Rattle.records.proofs.Rising.{rises-first, rises-rest, rises-cons}
+use Rattle.records.proofs.Finding.{held-none, lookup-absent, lookup-head}
+use Rattle.records.proofs.Counting.{total-blank}
 use Rattle.store.specs.Layout.{totalOf}
-use Rattle.store.specs.Sound.{parentOf, parentKey, parentOk}
-use Rattle.store.specs.Walk.{lenOf, weight, upMark, marked, markOk, after, start}
-use Rattle.store.proofs.Digits.{ends-short, Ends, contextOf-length, key-back}
+use Rattle.store.specs.Sound.{parentKey, parentOk}
+use Rattle.store.specs.Walk.{upMark, marked, markOk, after, start}
 use Rattle.store.proofs.Parents.{Above, above, apart, root-mark}
-use Rattle.store.proofs.Rising.{head-bound, from-head, lookup-head, lookup-none, zeros-at, blank-total}
 
 -- the records from lo up are those of `rest`
 abbrev pub Rest : List (List ℕ) → ℕ → List (List ℕ) → Type 0
@@ -46,13 +51,13 @@ module _ (rs : List (List ℕ)) (i : Sample) (lo : ℕ) (p : List ℕ) (r : List
       go : (t : Bool) → ltb k lo ≡ t → k < lo
       go true e = ltb-true k lo e
       go false e =
-          let out : lookup k rs ≡ blank k = there k (ltb-false k lo e) ∙ lookup-none k (key r) (r ∷ rest) (from-head lo r rest up) h in
-          let zero-sum : totalOf i (lookup k rs) ≡ 0 = ap (totalOf i) out ∙ blank-total i k in
+          let out : lookup k rs ≡ blank k = there k (ltb-false k lo e) ∙ lookup-absent k (r ∷ rest) (held-none k (key r) (r ∷ rest) (rises-cons (key r) (key r) (keys rest) (le-refl (key r)) (rises-rest lo (key r) (keys rest) up)) h) in
+          let zero-sum : totalOf i (lookup k rs) ≡ 0 = ap (totalOf i) out ∙ total-blank i k in
           absurd (omega arith)
 
   -- the record itself
   itself : lookup (key r) rs ≡ r
-  itself = there (key r) (head-bound lo r rest up) ∙ lookup-head r rest
+  itself = there (key r) (rises-first lo (key r) (keys rest) up) ∙ lookup-head r rest
 
   -- the mark at the record's length is its parent's exactly where the parent has counts
   mark-test : 1 ≤ lenOf (key r) → eqb (getD p (lenOf (key r)) 0) (upMark (key r)) ≡ ltb 0 (totalOf i (lookup (parentKey (key r)) rs))
@@ -67,7 +72,7 @@ module _ (rs : List (List ℕ)) (i : Sample) (lo : ℕ) (p : List ℕ) (r : List
       go : (t : Bool) → ltb 0 (totalOf i (lookup (parentKey k) rs)) ≡ t → eqb (getD p (lenOf k) 0) (upMark k) ≡ t
       go true e =
           let seen = ltb-true 0 (totalOf i (lookup (parentKey k) rs)) e in
-          let low = head-bound lo r rest up in
+          let low = rises-first lo (key r) (keys rest) up in
           let at : getD p (lenOf (parentKey k) + 1) 0 ≡ parentKey k + 1 = kept .last (parentKey k) (earlier (parentKey k) (a .before) seen) (a .ends) (omega (arith, a .near)) seen in
           eq-eqb (getD p (lenOf k) 0) (upMark k) (ap (λ (l : ℕ). getD p l 0) (sym (a .shorter)) ∙ at ∙ sym (a .mark))
       go false e = ne-eqb (getD p (lenOf k) 0) (upMark k)
@@ -145,7 +150,7 @@ module _ (rs : List (List ℕ)) (i : Sample) (lo : ℕ) (p : List ℕ) (r : List
       go false g false v =
           let other = eqb-false k (key r) g in
           let apart-len = eqb-false (lenOf k) (lenOf (key r)) v in
-          let low = head-bound lo r rest up in
+          let low = rises-first lo (key r) (keys rest) up in
           let less : k < key r = omega arith in
           getD-set-other p (lenOf (key r) + 1) (lenOf k + 1) (marked (key r) (totalOf i r)) 0 (λ q. apart-len (omega arith))
           ∙ kept .last k (earlier k less seen) e (omega arith) seen

@@ -9,17 +9,18 @@ use lib.Dec.{T, eqb→eq}
 use lib.ListN.{length, drop, getD, set, replicate, length-set, length-append, length-replicate, length-drop, getD-replicate, List·getD-append}
 use lib.Seq.{getD-set-same, getD-set-other, drop-set-lt, drop-append-add, drop-drop}
 use Rattle.numbers.specs.Limits.{desks, mostRoom}
+use Rattle.numbers.specs.Every.{all}
 use Rattle.numbers.proofs.Tests.{of-true, is-false}
 use Rattle.numbers.proofs.Sums.{sum-zero}
+use Rattle.numbers.proofs.Every.{every-of}
 use Rattle.records.specs.Records.{rises, parts}
 use Rattle.replay.specs.Room.{closed, new}
 use Rattle.store.specs.Layout.{headerSize, storeSize, room, deskStart, isOpen, recordsIn}
-use Rattle.store.specs.Sound.{all, deskOk, heldBy, reservedAt, soundb}
+use Rattle.store.specs.Sound.{deskOk, heldBy, reservedAt, soundb}
 use Rattle.store.specs.Meaning.{deskAt, meaning}
 use Rattle.store.specs.Making.{madeOf, Makes}
 use Rattle.store.specs.declared.Made.{Made}
 use Rattle.store.specs.declared.Made.the-variants.{Done}
-use Rattle.store.proofs.Many.{every-of}
 use Rattle.store.proofs.Desks.{desk-shut}
 use Rattle.store.proofs.Passing.{passes}
 use Rattle.store.proofs.Fitting.{desk-closed}

@@ -5,13 +5,14 @@ use Prim.Native.Nat.{ℕ, suc, _+_, _-_, _*_, _/_, _%_, _^_, _≤_, _<_}
 use native.Mathlib.Omega.{arith}
 use lib.ListN.{length}
 use Rattle.numbers.specs.Limits.{mostSymbols, deepest}
-use Rattle.contexts.specs.Keys.{contextKey, deskSpan, keyOf, deskOf, contextOf}
+use Rattle.contexts.specs.Context.{parentOf}
+use Rattle.contexts.specs.Keys.{contextKey, deskSpan, keyOf, deskOf, contextOf, lenOf, weight}
 use Rattle.contexts.proofs.Strings.{context-length}
 use Rattle.contexts.proofs.KeyOrder.{Within, deskOf-key, contextOf-key, key-child}
-use Rattle.store.specs.Sound.{parentOf, parentKey}
-use Rattle.store.specs.Walk.{lenOf, weight, upMark}
-use Rattle.store.proofs.Strings.{none, some, oldest, parent-snoc, length-snoc, context-parent, oldest-below}
-use Rattle.store.proofs.Digits.{each-length, Ends, contextOf-within, contextOf-length, key-back, key-ends, key-length}
+use Rattle.contexts.proofs.Oldest.{none, some, oldest, parent-snoc, length-snoc, context-parent, oldest-below}
+use Rattle.contexts.proofs.Digits.{each-length, Ends, contextOf-within, contextOf-length, key-back, key-ends, key-length}
+use Rattle.store.specs.Sound.{parentKey}
+use Rattle.store.specs.Walk.{upMark}
 
 -- a child's key from its parent's key x: a is the oldest symbol
 child : (x a l : ℕ) → l < 8 → l < 6 → a < 8 → x % weight l ≡ l

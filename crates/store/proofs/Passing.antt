@@ -1,5 +1,5 @@
 -- The parts of a passed test, and what it tells of a record and of a desk's context. Assumes nothing.
-use mathlib.Core.Path.{_≡_, sym, ap, subst, _∙_}
+use mathlib.Core.Path.{_≡_, ap, subst, _∙_}
 use mathlib.Core.Bool.{true, _&&_, _||_}
 use mathlib.Core.List.{List, []}
 use Prim.Native.Nat.{ℕ, _≤_}
@@ -8,19 +8,23 @@ use lib.Dec.{T, ltb, eqb, leb→le, le→leb, ltb→lt, eqb→eq}
 use lib.ListN.{length, drop, getD, length-take, List·getD-eq-default}
 use Rattle.numbers.specs.Limits.{mostSymbols, deepest, desks}
 use Rattle.numbers.specs.Sum.{sum}
-use Rattle.numbers.proofs.Tests.{both, left, right, or-rest, of-true, is-true}
+use Rattle.numbers.specs.Every.{every, all}
+use Rattle.numbers.proofs.Tests.{T?, both, left, right, or-rest, of-true, is-true, is-false}
 use Rattle.numbers.proofs.Orders.{less, same, more, order}
+use Rattle.numbers.proofs.Every.{every-at, all-at}
 use Rattle.contexts.specs.Keys.{keyOf, deskOf, contextOf}
-use Rattle.contexts.specs.Sitting.{Sample}
+use Rattle.contexts.specs.Sitting.{Sample, sumOf}
 use Rattle.contexts.proofs.Strings.{context-more}
 use Rattle.contexts.proofs.KeyOrder.{Within, deskOf-key, contextOf-key}
 use Rattle.records.specs.Records.{key, keys, countsOf, startOf, rises, blank}
-use Rattle.store.specs.Layout.{room, symbolsAt, depthAt, sizeAt, recordsIn, eightSum}
-use Rattle.store.specs.Sound.{every, all, eachSample, frameOk, deskOk, heldBy, reservedAt, keyOk, quietFrom, countsOk, sampleOk, tableOk, parentOk, recordOk, recordsOk, soundb}
+use Rattle.records.specs.Held.{held}
+use Rattle.records.proofs.Finding.{lookup-absent, lookup-held, key-lookup}
+use Rattle.records.proofs.Counting.{count-blank, total-blank}
+use Rattle.store.specs.Layout.{room, symbolsAt, depthAt, sizeAt, recordsIn}
+use Rattle.store.specs.Sound.{eachSample, frameOk, deskOk, heldBy, reservedAt, keyOk, quietFrom, countsOk, sampleOk, tableOk, parentOk, recordOk, recordsOk, soundb}
 use Rattle.store.specs.Plain.{Open, ContextAt, recordFor}
-use Rattle.store.proofs.Many.{every-at, all-at, sample-at}
+use Rattle.store.proofs.Many.{sample-at}
 use Rattle.store.proofs.Desks.{DeskStands, desk-stands}
-use Rattle.store.proofs.Rising.{Found, nothing, there, found, blank-count, blank-total}
 use Rattle.store.proofs.Whole.{Frame, frame, frame-of}
 
 pub record Passed (s : List ℕ) : Type 0 where
@@ -60,7 +64,7 @@ passes s h =
 
 pub record CountsStand (A n : ℕ) (part : List ℕ) : Type 0 where
   pub quiet : (a : ℕ) → A ≤ a → getD part a 0 ≡ 0
-  pub within : eightSum part ≤ n
+  pub within : sumOf part ≤ n
 
 counts-stand : (A n : ℕ) (part : List ℕ) → length part ≤ mostSymbols → T (countsOk A n part) → CountsStand A n part
 unfolding countsOk quietFrom
@@ -70,7 +74,7 @@ counts-stand A n part short t = record {
     | same e ↦ List·getD-eq-default part 0 (omega arith)
     | more l ↦ List·getD-eq-default part 0 (omega arith)
   ];
-  within = leb→le (eightSum part) n (right (quietFrom A part) _ t);
+  within = leb→le (sumOf part) n (right (quietFrom A part) _ t);
 }
 
 pub counts-short : (i : Sample) (r : List ℕ) → length (countsOf i r) ≤ mostSymbols
@@ -110,17 +114,16 @@ module _ (s : List ℕ) (h : Passed s) (d : ℕ) (o : Open s d) where
     present : T (recordOk s (recordsIn s) (recordFor s d c)) → key (recordFor s d c) ≡ keyOf d c → deskOf (key (recordFor s d c)) ≡ d → contextOf (key (recordFor s d c)) ≡ c → At c
 
   pub at : (c : List ℕ) → ContextAt s d c → At c
-  at c x = go (found (keyOf d c) (recordsIn s))
-    where
-      go : Found (keyOf d c) (recordsIn s) → At c
-      go (nothing e) = absent e
-      go (there j l e q) =
-          let k : key (recordFor s d c) ≡ keyOf d c = ap key e ∙ q in
-          present (subst (λ (r : List ℕ). T (recordOk s (recordsIn s) r)) (sym e) (all-at (recordOk s (recordsIn s)) (recordsIn s) j [] (h .each) l))
-          k (ap deskOf k ∙ deskOf-key d c (context-within c x)) (ap contextOf k ∙ contextOf-key d c (context-within c x))
+  at c x = elim (T? (held (keyOf d c) (recordsIn s))) [
+    | no n ↦ absent (lookup-absent (keyOf d c) (recordsIn s) (is-false (held (keyOf d c) (recordsIn s)) n))
+    | yes t ↦
+        let k : key (recordFor s d c) ≡ keyOf d c = key-lookup (keyOf d c) (recordsIn s) t in
+        present (lookup-held (λ r. T (recordOk s (recordsIn s) r)) (keyOf d c) (recordsIn s) (λ j l e. all-at (recordOk s (recordsIn s)) (recordsIn s) j [] (h .each) l) t)
+        k (ap deskOf k ∙ deskOf-key d c (context-within c x)) (ap contextOf k ∙ contextOf-key d c (context-within c x))
+  ]
 
   pub context-counts : (c : List ℕ) → ContextAt s d c → (i : Sample) → CountsStand (symbolsAt s d) (sizeAt s d i) (countsOf i (recordFor s d c))
   context-counts c x i = elim (at c x) [
-    | absent e ↦ rw e (record { quiet = λ a l. blank-count i (keyOf d c) a; within = omega (arith, blank-total i (keyOf d c)) })
+    | absent e ↦ rw e (record { quiet = λ a l. count-blank i a (keyOf d c); within = omega (arith, total-blank i (keyOf d c)) })
     | present t k q f ↦ subst (λ (m : ℕ). CountsStand (symbolsAt s m) (sizeAt s m i) (countsOf i (recordFor s d c))) q (record-counts s (recordsIn s) (recordFor s d c) t i)
   ]

@@ -10,17 +10,18 @@ use lib.ListN.{length, drop, getD, length-drop}
 use lib.Seq.{length-take-le}
 use Rattle.numbers.specs.Limits.{deepest, desks}
 use Rattle.numbers.proofs.Orders.{less, same, more, order}
-use Rattle.contexts.specs.Context.{begins}
+use Rattle.numbers.proofs.Every.{all-at}
+use Rattle.contexts.specs.Context.{begins, parentOf}
 use Rattle.contexts.specs.Keys.{keyOf, deskOf, contextOf}
 use Rattle.contexts.specs.Sitting.{Sample, first, second}
+use Rattle.contexts.proofs.Oldest.{none, some, oldest, parent-snoc, length-snoc, context-parent, begins-cut}
 use Rattle.records.specs.Records.{key, lookup}
+use Rattle.records.proofs.Rising.{rises-apart}
+use Rattle.records.proofs.Counting.{total-blank}
 use Rattle.store.specs.Layout.{headerSize, deskStart, used, symbolsAt, depthAt, slotsAt, recordsIn, totalOf}
-use Rattle.store.specs.Sound.{below, heldBy, parentOf, parentKey, recordOk, soundb}
+use Rattle.store.specs.Sound.{below, heldBy, parentKey, recordOk, soundb}
 use Rattle.store.specs.Plain.{Open, ContextAt, recordFor, totalAt, Counts, recordAt, Sound}
-use Rattle.store.proofs.Many.{all-at}
-use Rattle.store.proofs.Strings.{none, some, oldest, parent-snoc, length-snoc, context-parent, begins-cut}
 use Rattle.store.proofs.Parts.{records-length}
-use Rattle.store.proofs.Rising.{rises-apart, blank-total}
 use Rattle.store.proofs.Desks.{DeskStands}
 use Rattle.store.proofs.Climbing.{key-stands, table-seen, parent-seen}
 use Rattle.store.proofs.Passing.{Passed, passed, record-key, record-table, record-parents, desk-passed, context-counts, absent, present, at}
@@ -30,7 +31,7 @@ use Rattle.store.proofs.Passing.{Passed, passed, record-key, record-tab
 module _ (s : List ℕ) (h : Passed s) (d : ℕ) (o : Open s d) (i : Sample) where
   pub seen-parent : (p : List ℕ) (a : ℕ) → ContextAt s d (p ++ a ∷ []) → 0 < totalAt s d i (p ++ a ∷ []) → 0 < totalAt s d i p
   seen-parent p a x l = elim (at s h d o (p ++ a ∷ []) x) [
-    | absent e ↦ absurd (omega (arith, ap (totalOf i) e, blank-total i (keyOf d (p ++ a ∷ []))))
+    | absent e ↦ absurd (omega (arith, ap (totalOf i) e, total-blank i (keyOf d (p ++ a ∷ []))))
     | present t k q f ↦
         let r = recordFor s d (p ++ a ∷ []) in
         let up : parentKey (key r) ≡ keyOf d p = ap (λ (m : ℕ). keyOf m (parentOf (contextOf (key r)))) q ∙ ap (keyOf d) (ap parentOf f ∙ parent-snoc p a) in

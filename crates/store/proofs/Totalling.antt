@@ -1,47 +1,24 @@
 -- How many contexts a list of records holds: the sum over all strings of those that have a record. Assumes nothing.
-use mathlib.Core.Path.{_≡_, refl, ap, ap₂, _∙_}
-use mathlib.Core.Bool.{Bool, true, false, _&&_, _||_}
+use mathlib.Core.Path.{_≡_, refl, ap, _∙_}
+use mathlib.Core.Bool.{Bool, true, false, _||_}
 use mathlib.Core.List.{List, [], _∷_}
-use Prim.Native.Nat.{ℕ, zero, suc, _+_, _≤_, _<_}
+use Prim.Native.Nat.{ℕ, suc, _+_, _≤_, _<_}
 use native.Mathlib.Omega.{arith}
 use borrow.Author.Tests.{eq-eqb}
 use lib.Dec.{T, eqb, eqb→eq}
 use lib.ListN.{length, getD}
 use Rattle.numbers.specs.Limits.{mostSymbols, deepest}
-use Rattle.numbers.specs.Sum.{one, sum}
-use Rattle.numbers.proofs.Orders.{eqb-sym}
-use Rattle.numbers.proofs.Sums.{sum-cong, sum-zero, sum-pick}
+use Rattle.numbers.specs.Sum.{one}
 use Rattle.contexts.specs.Context.{isContext, eqs}
 use Rattle.contexts.specs.Keys.{keyOf}
 use Rattle.contexts.specs.Strings.{total}
-use Rattle.contexts.proofs.Strings.{newest-below, older-context, context-cons, context-more}
-use Rattle.contexts.proofs.Totalling.{total-add, total-none, total-only}
+use Rattle.contexts.proofs.Strings.{context-more}
+use Rattle.contexts.proofs.Totalling.{total-within, total-one, total-add, total-none}
 use Rattle.contexts.proofs.KeyOrder.{Within, eqb-key}
 use Rattle.records.specs.Records.{key, keys, rises}
-use Rattle.store.proofs.Rising.{tail-rises}
-use Rattle.store.proofs.Keeping.{hasKey, none-has}
-
--- sums of what is equal at every context are equal
-pub total-within : (A d : ℕ) {g h : List ℕ → ℕ} → ((s : List ℕ) → T (isContext A d s) → g s ≡ h s) → total A d g ≡ total A d h
-unfolding total isContext
-total-within A zero e = e [] tt
-total-within A (suc d) e = ap₂ _+_ (e [] tt) (sum-cong A (λ a l. total-within A d (λ s c. e (a ∷ s) (context-cons A d a s l c))))
-
--- one of the strings is t
-pub total-one : (A d : ℕ) (t : List ℕ) → T (isContext A d t) → total A d (λ s. one (eqs t s)) ≡ 1
-unfolding total isContext
-total-one A d [] c = total-only A d (λ s. one (eqs [] s)) (λ a s. refl)
-total-one A zero (x ∷ t) c = absurd c
-total-one A (suc d) (x ∷ t) c =
-    let ih = total-one A d t (older-context A d x t c) in
-    let e = sum-cong A {g = λ a. 0 + one (true && eqb a x)} (λ a l. pick a (eqb x a) refl ih) in
-    let f = sum-pick A x (λ a. 0) true (newest-below A d x t c) in
-    let z : sum A (λ a. 0) ≡ 0 = sum-zero A (λ a l. refl) in
-    omega arith
-  where
-    pick : (a : ℕ) (b : Bool) → eqb x a ≡ b → total A d (λ s. one (eqs t s)) ≡ 1 → total A d (λ s. one (b && eqs t s)) ≡ 0 + one (true && eqb a x)
-    pick a true e ih = rw (eqb-sym a x, e) ih
-    pick a false e ih = rw (eqb-sym a x, e) (total-none A d (λ s. refl))
+use Rattle.records.specs.Held.{held}
+use Rattle.records.proofs.Rising.{rises-rest}
+use Rattle.records.proofs.Finding.{held-none}
 
 either : (a b : Bool) → (T a → b ≡ false) → one (a || b) ≡ one a + one b
 either true b f = rw (f tt)
@@ -52,17 +29,17 @@ module _ (A D d : ℕ) (most : A ≤ mostSymbols) (deep : D ≤ deepest) where
   -- records of one desk's contexts hold as many contexts as there are records
   pub total-keys : (lo : ℕ) (rs : List (List ℕ)) → T (rises lo (keys rs))
       → ((j : ℕ) → j < length rs → (c : List ℕ) × T (isContext A D c) × (key (getD rs j []) ≡ keyOf d c))
-      → total A D (λ c. one (hasKey (keyOf d c) rs)) ≡ length rs
-  unfolding hasKey
+      → total A D (λ c. one (held (keyOf d c) rs)) ≡ length rs
+  unfolding held
   total-keys lo [] up own = total-none A D (λ c. refl)
   total-keys lo (r ∷ rs) up own =
-      let ih = total-keys (suc (key r)) rs (tail-rises lo r rs up) (λ j l. own (suc j) (omega arith)) in
+      let ih = total-keys (suc (key r)) rs (rises-rest lo (key r) (keys rs) up) (λ j l. own (suc j) (omega arith)) in
       let t = own 0 (omega arith) in
-      let split = total-within A D {g = λ c. one (eqb (key r) (keyOf d c) || hasKey (keyOf d c) rs)} {h = λ c. one (eqb (key r) (keyOf d c)) + one (hasKey (keyOf d c) rs)}
-      (λ c x. either (eqb (key r) (keyOf d c)) (hasKey (keyOf d c) rs) (λ q. none-has (keyOf d c) (suc (key r)) rs (tail-rises lo r rs up) (let e = eqb→eq (key r) (keyOf d c) q in omega arith))) in
+      let split = total-within A D {g = λ c. one (eqb (key r) (keyOf d c) || held (keyOf d c) rs)} {h = λ c. one (eqb (key r) (keyOf d c)) + one (held (keyOf d c) rs)}
+      (λ c x. either (eqb (key r) (keyOf d c)) (held (keyOf d c) rs) (λ q. held-none (keyOf d c) (suc (key r)) rs (rises-rest lo (key r) (keys rs) up) (let e = eqb→eq (key r) (keyOf d c) q in omega arith))) in
       let this = total-within A D {g = λ c. one (eqb (key r) (keyOf d c))} {h = λ c. one (eqs (t .0) c)} (λ c x. ap one (same c x (t .0) (t .1) (t .2))) in
       let one-of = total-one A D (t .0) (t .1) in
-      let both = total-add A D (λ c. one (eqb (key r) (keyOf d c))) (λ c. one (hasKey (keyOf d c) rs)) in
+      let both = total-add A D (λ c. one (eqb (key r) (keyOf d c))) (λ c. one (held (keyOf d c) rs)) in
       omega arith
     where
       wide : (c : List ℕ) → T (isContext A D c) → Within c

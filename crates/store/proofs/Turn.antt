@@ -9,39 +9,41 @@ use lib.Dec.{eqb}
 use lib.ListN.{length, drop, getD, set, replicate, length-set}
 use lib.Seq.{getD-set-same, getD-set-other}
 use Rattle.numbers.specs.Limits.{desks, mostRoom}
+use Rattle.numbers.specs.Sum.{one}
+use Rattle.numbers.specs.Every.{every}
 use Rattle.numbers.proofs.Tests.{of-true}
-use Rattle.contexts.specs.Keys.{deskOf}
+use Rattle.numbers.proofs.Lists.{zeros-at, cons-at, none-at}
+use Rattle.numbers.proofs.Every.{every-cong}
+use Rattle.contexts.specs.Keys.{deskOf, lenOf}
 use Rattle.contexts.specs.Sitting.{first, second}
 use Rattle.records.specs.Records.{width, records, key}
-use Rattle.store.specs.Layout.{headerSize, totalOf, keep, ofDesk}
-use Rattle.store.specs.Sound.{every, heldBy, deskTest}
-use Rattle.store.specs.Walk.{lenOf, walk, stepOk, after, marked, start, tallyOk, passb}
-use Rattle.store.proofs.Many.{every-cong}
-use Rattle.store.proofs.Parts.{parts-length}
-use Rattle.store.proofs.Loops.{cons-at, none-at}
-use Rattle.store.proofs.Rising.{zeros-at}
+use Rattle.records.specs.Held.{keep, ofDesk}
+use Rattle.records.proofs.Parts.{length-parts}
+use Rattle.store.specs.Layout.{headerSize, totalOf}
+use Rattle.store.specs.Sound.{heldBy, deskTest}
+use Rattle.store.specs.Walk.{walk, stepOk, after, marked, start, tallyOk, passb}
 use Rattle.store.proofs.Walking.{step-desk}
 
 -- ---- one record, and the others
 
-held-cons : (d : ℕ) (r : List ℕ) (rs : List (List ℕ)) → heldBy d (r ∷ rs) ≡ cond (eqb (deskOf (key r)) d) 1 0 + heldBy d rs
+held-cons : (d : ℕ) (r : List ℕ) (rs : List (List ℕ)) → heldBy d (r ∷ rs) ≡ one (eqb (deskOf (key r)) d) + heldBy d rs
 unfolding keep
 held-cons d r rs = go (eqb (deskOf (key r)) d)
   where
-    go : (t : Bool) → length (cond t (r ∷ keep (ofDesk d) rs) (keep (ofDesk d) rs)) ≡ cond t 1 0 + length (keep (ofDesk d) rs)
+    go : (t : Bool) → length (cond t (r ∷ keep (ofDesk d) rs) (keep (ofDesk d) rs)) ≡ one t + length (keep (ofDesk d) rs)
     go true = omega arith
     go false = omega arith
 
-held-none : (d : ℕ) → heldBy d [] ≡ 0
+held-nil : (d : ℕ) → heldBy d [] ≡ 0
 unfolding keep
-held-none d = refl
+held-nil d = refl
 
 module _ (rs : List (List ℕ)) (i : ℕ) where
-  pub held-step : (d : ℕ) → i < length rs → heldBy d (drop i rs) ≡ cond (eqb (deskOf (key (getD rs i []))) d) 1 0 + heldBy d (drop (i + 1) rs)
+  pub held-step : (d : ℕ) → i < length rs → heldBy d (drop i rs) ≡ one (eqb (deskOf (key (getD rs i []))) d) + heldBy d (drop (i + 1) rs)
   held-step d h = ap (heldBy d) (cons-at rs i [] h) ∙ held-cons d (getD rs i []) (drop (i + 1) rs)
 
   pub held-end : (d : ℕ) → i ≡ length rs → heldBy d (drop i rs) ≡ 0
-  held-end d e = ap (heldBy d) (none-at rs i e) ∙ held-none d
+  held-end d e = ap (heldBy d) (none-at rs i e) ∙ held-nil d
 
   pub walk-step : (s : List ℕ) (lo : ℕ) (p q : List ℕ) → i < length rs → (r : List ℕ) → r ≡ getD rs i []
       → stepOk s lo (getD p (lenOf (key r)) 0) (getD q (lenOf (key r)) 0) r ≡ true
@@ -88,7 +90,7 @@ turn-start s body n h b f = record {
 
 module _ (s body : List ℕ) (n : ℕ) (p q tally : List ℕ) (lo i : ℕ) (t : Turn s body n p q tally lo i) where
   inside-records : i < n → i < length (records n body)
-  inside-records h = rw (parts-length width n body) h
+  inside-records h = rw (length-parts width n body) h
 
   -- the records before have passed, and so has this one
   pub turn-next : i < n → (r : List ℕ) → r ≡ getD (records n body) i []
@@ -117,8 +119,8 @@ module _ (s body : List ℕ) (n : ℕ) (p q tally : List ℕ) (lo i : ℕ) (t : 
       low : d < desks
       low = step-desk s lo (getD p (lenOf (key r)) 0) (getD q (lenOf (key r)) 0) r (of-true _ good)
 
-      here : (a : ℕ) → heldBy a (drop i (records n body)) ≡ cond (eqb d a) 1 0 + heldBy a (drop (i + 1) (records n body))
-      here a = held-step (records n body) i a (inside-records h) ∙ ap (λ (z : List ℕ). cond (eqb (deskOf (key z)) a) 1 0 + heldBy a (drop (i + 1) (records n body))) (sym e)
+      here : (a : ℕ) → heldBy a (drop i (records n body)) ≡ one (eqb d a) + heldBy a (drop (i + 1) (records n body))
+      here a = held-step (records n body) i a (inside-records h) ∙ ap (λ (z : List ℕ). one (eqb (deskOf (key z)) a) + heldBy a (drop (i + 1) (records n body))) (sym e)
 
       in-place : getD (set tally d (getD tally d 0 + 1)) d 0 ≡ getD tally d 0 + 1
       in-place = getD-set-same tally d (getD tally d 0 + 1) 0 (omega (arith, low, t .long-t))
@@ -133,11 +135,11 @@ module _ (s body : List ℕ) (n : ℕ) (p q tally : List ℕ) (lo i : ℕ) (t : 
       tallied-next : (a : ℕ) → a < desks → (u : Bool) → eqb a d ≡ u
           → getD (set tally d (getD tally d 0 + 1)) a 0 + heldBy a (drop (i + 1) (records n body)) ≡ heldBy a (records n body)
       tallied-next a u true g =
-          let one : cond {A = ℕ} (eqb d a) 1 0 ≡ 1 = ap (λ (b : Bool). cond {A = ℕ} b 1 0) (eq-eqb d a (sym (eqb-true a d g))) in
+          let here-one : one (eqb d a) ≡ 1 = ap one (eq-eqb d a (sym (eqb-true a d g))) in
           let at : getD (set tally d (getD tally d 0 + 1)) a 0 ≡ getD tally a 0 + 1 = rw (eqb-true a d g) in-place in
           omega (arith, here a, t .tallied a u)
       tallied-next a u false g =
-          let none : cond {A = ℕ} (eqb d a) 1 0 ≡ 0 = ap (λ (b : Bool). cond {A = ℕ} b 1 0) (ne-eqb d a (λ o. eqb-false a d g (sym o))) in
+          let none : one (eqb d a) ≡ 0 = ap one (ne-eqb d a (λ o. eqb-false a d g (sym o))) in
           omega (arith, here a, t .tallied a u, elsewhere a (eqb-false a d g))
 
   -- a record that fails fails the pass
@@ -152,7 +154,7 @@ module _ (s body : List ℕ) (n : ℕ) (p q tally : List ℕ) (lo i : ℕ) (t : 
   pub turn-end : i ≡ n → every desks (tallyOk s tally) ≡ passb s (records n body)
   unfolding passb
   turn-end e =
-      let last : i ≡ length (records n body) = e ∙ sym (parts-length width n body) in
+      let last : i ≡ length (records n body) = e ∙ sym (length-parts width n body) in
       let done : walk s 0 start start (records n body) ≡ true = sym (t .same) ∙ walk-end (records n body) i s lo p q last in
       let many : (d : ℕ) → d < desks → getD tally d 0 ≡ heldBy d (records n body) = λ d u. omega (arith, t .tallied d u, held-end (records n body) i d last) in
       rw done (every-cong desks (λ d u. ap (deskTest s d) (many d u)))

@@ -9,15 +9,17 @@ use borrow.Author.Tests.{le-leb}
 use lib.Dec.{T, leb, ltb, leb→le, ltb→lt, eqb→eq}
 use lib.ListN.{getD}
 use Rattle.numbers.specs.Limits.{desks}
+use Rattle.numbers.specs.Every.{all}
 use Rattle.numbers.proofs.Tests.{both, left, right, of-true, is-true}
-use Rattle.contexts.specs.Keys.{deskOf}
+use Rattle.contexts.specs.Keys.{deskOf, lenOf}
 use Rattle.contexts.specs.Sitting.{first, second}
+use Rattle.contexts.proofs.Digits.{Ends}
 use Rattle.records.specs.Records.{key, keys, rises}
+use Rattle.records.proofs.Rising.{rises-first, rises-rest}
+use Rattle.records.proofs.Finding.{lookup-tail}
 use Rattle.store.specs.Layout.{isOpen, symbolsAt, depthAt}
-use Rattle.store.specs.Sound.{all, eachSample, parentOk, tableOk}
-use Rattle.store.specs.Walk.{lenOf, oldestOk, endsOk, keyFits, ownOk, stepOk, after, walk, start}
-use Rattle.store.proofs.Digits.{Ends}
-use Rattle.store.proofs.Rising.{head-bound, tail-rises, lookup-tail}
+use Rattle.store.specs.Sound.{eachSample, parentOk, tableOk}
+use Rattle.store.specs.Walk.{oldestOk, endsOk, keyFits, ownOk, stepOk, after, walk, start}
 use Rattle.store.proofs.Marks.{Rest, Kept, kept-start, kept-next, mark-parent}
 
 -- a record's own test, and its parent looked up
@@ -61,19 +63,19 @@ agree : (s : List ℕ) (rs : List (List ℕ)) (lo : ℕ) (p q : List ℕ) (rest 
 unfolding walk all stepOk fitOk
 agree s rs lo p q [] up there kp kq = refl
 agree s rs lo p q (r ∷ rest) up there kp kq = go (ownOk s r) refl
-    (λ ends. agree s rs (key r + 1) (after first r p) (after second r q) rest (rw (add-one (key r)) (tail-rises lo r rest up))
-    (λ j h. there j (omega (arith, head-bound lo r rest up)) ∙ lookup-tail j r rest (omega arith))
+    (λ ends. agree s rs (key r + 1) (after first r p) (after second r q) rest (rw (add-one (key r)) (rises-rest lo (key r) (keys rest) up))
+    (λ j h. there j (omega (arith, rises-first lo (key r) (keys rest) up)) ∙ lookup-tail j r rest (omega arith))
     (kept-next rs first lo p r rest up there kp ends) (kept-next rs second lo q r rest up there kq ends))
   where
     go : (t : Bool) → ownOk s r ≡ t
         → (Ends (key r) → walk s (key r + 1) (after first r p) (after second r q) rest ≡ all (fitOk s rs) rest)
         → walk s lo p q (r ∷ rest) ≡ all (fitOk s rs) (r ∷ rest)
-    go false e ih = rw (le-leb lo (key r) (head-bound lo r rest up), e)
+    go false e ih = rw (le-leb lo (key r) (rises-first lo (key r) (keys rest) up), e)
     go true e ih =
         let fits = own-key s r (of-true (ownOk s r) e) in
         let one = mark-parent rs first lo p r rest up there kp (fits .ends) (fits .desk) in
         let two = mark-parent rs second lo q r rest up there kq (fits .ends) (fits .desk) in
-        rw (le-leb lo (key r) (head-bound lo r rest up), e, one, two, ih (fits .ends))
+        rw (le-leb lo (key r) (rises-first lo (key r) (keys rest) up), e, one, two, ih (fits .ends))
 
 -- a walk that passes rises
 walk-rises : (s : List ℕ) (lo : ℕ) (p q : List ℕ) (rest : List (List ℕ)) → T (walk s lo p q rest) → T (rises lo (keys rest))

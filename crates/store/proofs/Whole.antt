@@ -6,15 +6,16 @@ use Prim.Native.Nat.{ℕ, _-_, _*_, _≤_, _<_}
 use native.Mathlib.Omega.{arith}
 use lib.Dec.{T, leb, leb→le, le→leb}
 use lib.ListN.{length, take, drop, length-drop}
-use lib.Seq.{take-all}
 use Rattle.numbers.specs.Limits.{desks, mostRoom}
 use Rattle.numbers.specs.Sum.{sum}
+use Rattle.numbers.specs.Every.{every, all}
 use Rattle.numbers.proofs.Tests.{both, left, right, of-true}
+use Rattle.numbers.proofs.Every.{every-at}
 use Rattle.records.specs.Records.{keys, rises, width}
+use Rattle.records.proofs.Lent.{tail-lent}
 use Rattle.store.specs.Layout.{headerSize, storeSize, room, used, isOpen, symbolsAt, recordsIn}
-use Rattle.store.specs.Sound.{every, all, frameOk, deskOk, heldBy, reservedAt, recordOk, recordsOk, soundb}
+use Rattle.store.specs.Sound.{frameOk, deskOk, heldBy, reservedAt, recordOk, recordsOk, soundb}
 use Rattle.store.specs.Walk.{walk, start, passb}
-use Rattle.store.proofs.Many.{every-at}
 use Rattle.store.proofs.Desks.{desk-stands}
 use Rattle.store.proofs.Walking.{walk-is}
 use Rattle.store.proofs.Climbing.{fits-are}
@@ -62,10 +63,6 @@ frame-of s f =
     both (leb 1 (room s)) _ (le→leb 1 (room s) (f .some))
     (both (leb (room s) mostRoom) _ (le→leb (room s) mostRoom (f .most))
     (both (leb (storeSize (room s)) (length s)) _ (le→leb (storeSize (room s)) (length s) (f .long)) (le→leb (used s) (room s) (f .few))))
-
--- a part that is lent up to the end
-pub tail-lent : (a : ℕ) (l : List ℕ) → take (length l - a) (drop a l) ≡ drop a l
-tail-lent a l = take-all (length l - a) (drop a l) (let e = length-drop a l in omega arith)
 
 -- the records in use lie within the part after the header
 pub body-long : (s : List ℕ) → Frame s → width * used s ≤ length (take (length s - headerSize) (drop headerSize s))

@@ -1,14 +1,12 @@
 -- The numbers of a store: a header of 2,048 numbers, then the records of all desks. Assumes nothing.
-use mathlib.Core.Bool.{Bool, cond}
-use mathlib.Core.List.{List, [], _∷_}
+use mathlib.Core.Bool.{Bool}
+use mathlib.Core.List.{List}
 use Prim.Native.Nat.{ℕ, _+_, _*_}
 use lib.ListN.{take, drop, getD}
 use lib.Dec.{eqb}
-use Rattle.numbers.specs.Limits.{mostSymbols, deepest}
-use Rattle.numbers.specs.Sum.{sum}
-use Rattle.contexts.specs.Keys.{deskOf}
-use Rattle.contexts.specs.Sitting.{Sample, first, second}
-use Rattle.records.specs.Records.{width, records, key, countsOf}
+use Rattle.numbers.specs.Limits.{deepest}
+use Rattle.contexts.specs.Sitting.{Sample, first, second, sumOf}
+use Rattle.records.specs.Records.{width, records, countsOf}
 
 -- how many numbers the header has
 abbrev pub headerSize : ℕ
@@ -71,23 +69,6 @@ slotsAt s d i = take deepest (drop (deskStart d + recentField i) s)
 unfoldable pub recordsIn : List ℕ → List (List ℕ)
 recordsIn s = records (used s) (drop headerSize s)
 
--- a record's count of a symbol in a sample
-abbrev pub countIn : Sample → List ℕ → ℕ → ℕ
-countIn i r a = getD (countsOf i r) a 0
-
--- the sum of eight counts
-abbrev pub eightSum : List ℕ → ℕ
-eightSum part = sum mostSymbols (λ a. getD part a 0)
-
 -- N(s) of a record in a sample
 abbrev pub totalOf : Sample → List ℕ → ℕ
-totalOf i r = eightSum (countsOf i r)
-
--- the records whose key passes a test
-unfoldable pub keep : (ℕ → Bool) → List (List ℕ) → List (List ℕ)
-keep p [] = []
-keep p (r ∷ rs) = cond (p (key r)) (r ∷ keep p rs) (keep p rs)
-
--- a key is a desk's
-abbrev pub ofDesk : ℕ → ℕ → Bool
-ofDesk d k = eqb (deskOf k) d
+totalOf i r = sumOf (countsOf i r)

@@ -12,9 +12,9 @@ use Rattle.numbers.specs.Sum.{sum}
 use Rattle.contexts.specs.Context.{isContext}
 use Rattle.contexts.specs.Keys.{keyOf}
 use Rattle.contexts.specs.Sitting.{Sample, Sitting, Progress, totalIn, contextsHeld, sat}
-use Rattle.records.specs.Records.{lookup}
+use Rattle.records.specs.Held.{countAt}
 use Rattle.replay.specs.Room.{Opening, Desk, closed, opened, Room, reserved}
-use Rattle.store.specs.Layout.{room, isOpen, symbolsAt, depthAt, reserveAt, sizeAt, slotsAt, recordsIn, countIn}
+use Rattle.store.specs.Layout.{room, isOpen, symbolsAt, depthAt, reserveAt, sizeAt, slotsAt, recordsIn}
 
 -- ---- the meaning
 
@@ -26,7 +26,7 @@ abbrev pub progressAt : List ℕ → ℕ → Progress
 progressAt s d = record {
   size = sizeAt s d;
   recent = λ i. take (min (sizeAt s d i) (depthAt s d)) (slotsAt s d i);
-  count = λ i c a. cond (isContext (symbolsAt s d) (depthAt s d) c) (countIn i (lookup (keyOf d c) (recordsIn s)) a) 0;
+  count = λ i c a. cond (isContext (symbolsAt s d) (depthAt s d) c) (countAt (keyOf d c) i a (recordsIn s)) 0;
 }
 
 -- the sitting at a desk

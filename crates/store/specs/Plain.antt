@@ -10,8 +10,8 @@ use Rattle.numbers.specs.Sum.{sum}
 use Rattle.contexts.specs.Context.{isContext, begins}
 use Rattle.contexts.specs.Keys.{keyOf}
 use Rattle.contexts.specs.Sitting.{Sample, first, second}
-use Rattle.records.specs.Records.{key, lookup}
-use Rattle.store.specs.Layout.{storeSize, room, used, isOpen, symbolsAt, depthAt, reserveAt, sizeAt, slotsAt, recordsIn, countIn, totalOf}
+use Rattle.records.specs.Records.{key, lookup, countOf}
+use Rattle.store.specs.Layout.{storeSize, room, used, isOpen, symbolsAt, depthAt, reserveAt, sizeAt, slotsAt, recordsIn, totalOf}
 use Rattle.store.specs.Sound.{heldBy, reservedAt}
 
 -- desk d is one of the eight and open
@@ -62,7 +62,7 @@ pub record Sound (s : List ℕ) : Type 0 where
   -- "no context is held twice"
   pub held-once : (j k : ℕ) → j < used s → k < used s → key (recordAt s j) ≡ key (recordAt s k) → j ≡ k
   -- "no count above 0 stands at a symbol from A up"
-  pub counts-below : (d : ℕ) → Open s d → (c : List ℕ) → ContextAt s d c → (i : Sample) (a : ℕ) → symbolsAt s d ≤ a → countIn i (recordFor s d c) a ≡ 0
+  pub counts-below : (d : ℕ) → Open s d → (c : List ℕ) → ContextAt s d c → (i : Sample) (a : ℕ) → symbolsAt s d ≤ a → countOf i (recordFor s d c) a ≡ 0
   -- "no context's total N(s) in a sample passes that sample's length"
   pub totals : (d : ℕ) → Open s d → (c : List ℕ) → ContextAt s d c → (i : Sample) → totalAt s d i c ≤ sizeAt s d i
   -- "no context is seen in a sample that has not seen its shorter suffixes"

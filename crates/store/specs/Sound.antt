@@ -1,29 +1,19 @@
 -- The soundness test: a test of the store's numbers, made of one test for each desk and one for each record. It reads the header and the
 -- records in use, and finds the record of a shorter context by its key. Assumes nothing.
 use mathlib.Core.Bool.{Bool, true, cond, _&&_, _||_}
-use mathlib.Core.List.{List, [], _∷_}
-use Prim.Native.Nat.{ℕ, zero, suc, _+_, _-_}
-use lib.ListN.{take, getD, length}
+use mathlib.Core.List.{List}
+use Prim.Native.Nat.{ℕ, _+_}
+use lib.ListN.{getD, length}
 use lib.Dec.{leb, ltb, eqb}
 use Rattle.numbers.specs.Limits.{fewestSymbols, mostSymbols, deepest, longest, desks, mostRoom}
 use Rattle.numbers.specs.Sum.{sum}
-use Rattle.contexts.specs.Context.{isContext}
+use Rattle.numbers.specs.Every.{every, all}
+use Rattle.contexts.specs.Context.{isContext, parentOf}
 use Rattle.contexts.specs.Keys.{keyOf, deskOf, contextOf}
-use Rattle.contexts.specs.Sitting.{Sample, first, second}
+use Rattle.contexts.specs.Sitting.{Sample, first, second, sumOf}
 use Rattle.records.specs.Records.{key, keys, countsOf, rises, lookup}
-use Rattle.store.specs.Layout.{storeSize, room, used, isOpen, symbolsAt, depthAt, reserveAt, sizeAt, slotsAt, recordsIn, eightSum, totalOf, keep, ofDesk}
-
--- ---- tests of many
-
--- every number below n passes
-unfoldable pub every : ℕ → (ℕ → Bool) → Bool
-every zero f = true
-every (suc n) f = every n f && f n
-
--- every element of a list passes
-unfoldable pub all : {X : Type 0} → (X → Bool) → List X → Bool
-all f [] = true
-all f (x ∷ xs) = f x && all f xs
+use Rattle.records.specs.Held.{keep, ofDesk}
+use Rattle.store.specs.Layout.{storeSize, room, used, isOpen, symbolsAt, depthAt, reserveAt, sizeAt, slotsAt, recordsIn, totalOf}
 
 -- both samples pass
 abbrev pub eachSample : (Sample → Bool) → Bool
@@ -85,7 +75,7 @@ quietFrom A part = every mostSymbols (λ a. ltb a A || eqb (getD part a 0) 0)
 
 -- .. and their sum is at most n
 unfoldable pub countsOk : ℕ → ℕ → List ℕ → Bool
-countsOk A n part = quietFrom A part && leb (eightSum part) n
+countsOk A n part = quietFrom A part && leb (sumOf part) n
 
 -- a record's counts in a sample, by what its desk says
 abbrev pub sampleOk : List ℕ → List ℕ → Sample → Bool
@@ -95,10 +85,7 @@ sampleOk s r i = countsOk (symbolsAt s (deskOf (key r))) (sizeAt s (deskOf (key 
 unfoldable pub tableOk : List ℕ → List ℕ → Bool
 tableOk s r = eachSample (sampleOk s r) && ltb 0 (totalOf first r + totalOf second r)
 
--- a context less its oldest symbol
-abbrev pub parentOf : List ℕ → List ℕ
-parentOf s = take (length s - 1) s
-
+-- the key of a key's parent
 abbrev pub parentKey : ℕ → ℕ
 parentKey k = keyOf (deskOf k) (parentOf (contextOf k))
 

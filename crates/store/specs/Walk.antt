@@ -2,25 +2,18 @@
 use mathlib.Core.Path.{_≡_}
 use mathlib.Core.Bool.{Bool, true, cond, _&&_, _||_}
 use mathlib.Core.List.{List, [], _∷_}
-use Prim.Native.Nat.{ℕ, _+_, _-_, _*_, _/_, _%_, _^_, _≤_}
+use Prim.Native.Nat.{ℕ, _+_, _*_, _/_, _%_, _≤_}
 use lib.ListN.{length, getD, set, replicate}
 use lib.Dec.{leb, ltb, eqb}
 use Rattle.numbers.specs.Limits.{desks}
-use Rattle.contexts.specs.Keys.{deskOf, deskSpan}
+use Rattle.numbers.specs.Every.{every}
+use Rattle.contexts.specs.Keys.{deskSpan, deskOf, lenOf, weight}
 use Rattle.contexts.specs.Sitting.{Sample, first, second}
 use Rattle.records.specs.Records.{width, key}
 use Rattle.store.specs.Layout.{isOpen, symbolsAt, depthAt, totalOf}
-use Rattle.store.specs.Sound.{every, tableOk, deskTest, deskOk}
+use Rattle.store.specs.Sound.{tableOk, deskTest, deskOk}
 
 -- ---- a key's digits
-
--- the length is the lowest octal digit
-abbrev pub lenOf : ℕ → ℕ
-lenOf k = k % 8
-
--- what the oldest of l symbols weighs in a key
-unfoldable pub weight : ℕ → ℕ
-weight l = 8 ^ (7 - l)
 
 -- the oldest symbol is below A. The newer ones are those of the parent, whose record has its own test
 unfoldable pub oldestOk : ℕ → ℕ → Bool

@@ -4,11 +4,13 @@ ghost use Prim.Native.Nat.{_+_, _*_, _≤_, _<_};
 ghost use lib.ListN.{length, take, drop};
 ghost use Rattle.numbers.specs.Limits.{mostSymbols, desks, mostRoom};
 ghost use Rattle.numbers.specs.Sum.{sum};
+ghost use Rattle.numbers.specs.Every.{every, all};
 ghost use Rattle.records.specs.Records.{width, records, key};
-ghost use Rattle.contexts.specs.Keys.{deskOf, deskSpan};
-ghost use Rattle.store.specs.Layout.{headerSize, eightSum};
-ghost use Rattle.store.specs.Sound.{every, all, below, frameOk, limitsOk, slotsOk, deskTest, reservedAt, quietFrom, countsOk, tableOk};
-ghost use Rattle.store.specs.Walk.{largestSum, Summed, weight, oldestOk, endsOk, upMark, keyFits, marked, markOk, stepOk, tallyOk, passb};
+ghost use Rattle.contexts.specs.Keys.{deskOf, deskSpan, weight};
+ghost use Rattle.contexts.specs.Sitting.{sumOf};
+ghost use Rattle.store.specs.Layout.{headerSize};
+ghost use Rattle.store.specs.Sound.{below, frameOk, limitsOk, slotsOk, deskTest, reservedAt, quietFrom, countsOk, tableOk};
+ghost use Rattle.store.specs.Walk.{largestSum, Summed, oldestOk, endsOk, upMark, keyFits, marked, markOk, stepOk, tallyOk, passb};
 use super::layout::COUNTS;
 use super::layout::COUNTS_FIRST;
 use super::layout::COUNTS_SECOND;
@@ -93,7 +95,7 @@ pub fn pass(store: &[u32], body: &[u32], many: usize) -> bool
 // The sum of the eight counts that begin at a place of a record.
 fn total(held: &[u32], from: usize) -> u64
     requires { ⌜ from + mostSymbols ≤ length (now held) ⌝ }
-    ensures { λ r. ⌜ (r ≡ eightSum (take mostSymbols (drop from (now (held .entry))))) × (r ≤ largestSum) ⌝ }
+    ensures { λ r. ⌜ (r ≡ sumOf (take mostSymbols (drop from (now (held .entry))))) × (r ≤ largestSum) ⌝ }
 {
     let mut seen: u64 = 0;
     let mut i: usize = 0;
@@ -185,7 +187,7 @@ fn table_ok(store: &[u32], held: &[u32], x: u64, y: u64) -> bool
 
 // A sample's counts, `seen` in all: none from symbol `a` up, and no more than `most`.
 fn counts_ok(held: &[u32], from: usize, seen: u64, a: u32, most: u32) -> bool
-    requires { ⌜ (from + mostSymbols ≤ length (now held)) × (seen ≡ eightSum (take mostSymbols (drop from (now held)))) ⌝ }
+    requires { ⌜ (from + mostSymbols ≤ length (now held)) × (seen ≡ sumOf (take mostSymbols (drop from (now held)))) ⌝ }
     ensures { λ r. ⌜ r ≡ countsOk a most (take mostSymbols (drop from (now (held .entry)))) ⌝ }
 {
     if quiet(held, from, a as usize) {

@@ -4,10 +4,11 @@ use mathlib.Core.Path.{_≡_, sym, _∙_}
 use native.Mathlib.Omega.{arith}
 use borrow.Author.Needs.{needs}
 use Rattle.numbers.proofs.Tests.{of-true}
+use Rattle.records.proofs.Lent.{tail-lent}
 use Rattle.store.specs.Layout.{headerSize, recordsIn}
 use Rattle.store.specs.Sound.{frameOk}
 use Rattle.store.specs.Walk.{passb}
-use Rattle.store.proofs.Whole.{Frame, frame, tail-lent, body-long, pass-is}
+use Rattle.store.proofs.Whole.{Frame, frame, body-long, pass-is}
 use Rattle.store.proofs.sound.Statement.{statement}
 use Rattle.store.proofs.sound.Tie as tie
 

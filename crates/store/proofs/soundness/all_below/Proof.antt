@@ -4,8 +4,9 @@ use Prim.Native.Nat.{_≤_, _-_}
 use native.Mathlib.Omega.{arith}
 use borrow.Author.Tests.{lt-ltb, le-ltb}
 use lib.ListN.{length, drop, getD}
-use Rattle.store.specs.Sound.{all, below}
-use Rattle.store.proofs.Loops.{all-step, all-end}
+use Rattle.numbers.specs.Every.{all}
+use Rattle.numbers.proofs.Every.{all-step, all-end}
+use Rattle.store.specs.Sound.{below}
 use Rattle.store.proofs.soundness.all_below.Statement.{statement}
 use Rattle.store.proofs.soundness.all_below.Tie as tie
 

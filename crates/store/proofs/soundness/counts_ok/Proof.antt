@@ -2,7 +2,7 @@
 use mathlib.Core.Bool.{true, false}
 use mathlib.Core.Path.{_≡_, sym, _∙_}
 use borrow.Author.Needs.{needs}
-use Rattle.store.specs.Layout.{eightSum}
+use Rattle.contexts.specs.Sitting.{sumOf}
 use Rattle.store.specs.Sound.{quietFrom, countsOk}
 use Rattle.store.proofs.Loops.{eightFrom}
 use Rattle.store.proofs.soundness.counts_ok.Statement.{statement}
@@ -17,7 +17,7 @@ returns c =
     let args = c .before .before .before .args in
     let part = eightFrom (args .from) (args .held .now) in
     let none : quietFrom (args .a) part ≡ true = sym (c .before .quiet .ensures) ∙ c .if1 .taken in
-    let is : args .seen ≡ eightSum part = c .before .before .before .pre .1 in
+    let is : args .seen ≡ sumOf part = c .before .before .before .pre .1 in
     rw (none, ← is)
 
 returns-2 : tie.Need-returns-2

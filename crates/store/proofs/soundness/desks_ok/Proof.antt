@@ -6,11 +6,10 @@ use native.Mathlib.Omega.{arith}
 use borrow.Author.Needs.{needs}
 use lib.ListN.{length}
 use Rattle.numbers.specs.Limits.{desks}
+use Rattle.numbers.specs.Every.{every}
+use Rattle.numbers.proofs.Every.{every-next, every-none, every-fails}
 use Rattle.store.specs.Layout.{headerSize}
-use Rattle.store.specs.Sound.{every}
 use Rattle.store.specs.Walk.{tallyOk}
-use Rattle.store.proofs.Loops.{every-none, every-more}
-use Rattle.store.proofs.Many.{every-fails}
 use Rattle.store.proofs.soundness.desks_ok.Statement.{statement}
 use Rattle.store.proofs.soundness.desks_ok.Tie as tie
 
@@ -43,7 +42,7 @@ loop-again c =
     let args = c .before .before .before .before .before .args in
     let loop = c .before .before .before .loop in
     let test = tallyOk (args .store .now) (args .t2) in
-    (omega arith, omega arith, loop .inv .2, every-more (loop .desk) test ∙ rw (loop .inv .3, sym (c .before .desk-ok .ensures) ∙ c .if1 .taken))
+    (omega arith, omega arith, loop .inv .2, every-next (loop .desk) test ∙ rw (loop .inv .3, sym (c .before .desk-ok .ensures) ∙ c .if1 .taken))
 
 returns : tie.Need-returns Inv-loop μ-loop
 returns c =

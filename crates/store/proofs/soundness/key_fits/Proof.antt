@@ -6,9 +6,9 @@ use native.Mathlib.Omega.{arith}
 use borrow.Author.Needs.{needs}
 use borrow.Author.Tests.{lt-ltb, le-ltb, le-leb, lt-leb, eq-eqb, ne-eqb}
 use Rattle.numbers.specs.Limits.{desks}
-use Rattle.contexts.specs.Keys.{deskOf}
+use Rattle.contexts.specs.Keys.{deskOf, lenOf}
 use Rattle.store.specs.Layout.{field, symbolsAt, depthAt}
-use Rattle.store.specs.Walk.{keyFits, oldestOk, lenOf}
+use Rattle.store.specs.Walk.{keyFits, oldestOk}
 use Rattle.store.proofs.soundness.key_fits.Statement.{statement}
 use Rattle.store.proofs.soundness.key_fits.Tie as tie
 

@@ -5,9 +5,9 @@ use native.Mathlib.Omega.{arith}
 use lib.ListN.{length}
 use Rattle.numbers.specs.Limits.{desks}
 use Rattle.numbers.specs.Sum.{sum}
+use Rattle.numbers.proofs.Sums.{sum-next, sum-none}
 use Rattle.store.specs.Layout.{headerSize}
 use Rattle.store.specs.Sound.{reservedAt}
-use Rattle.store.proofs.Loops.{sum-more, sum-none}
 use Rattle.store.proofs.soundness.reserved.Statement.{statement}
 use Rattle.store.proofs.soundness.reserved.Tie as tie
 
@@ -35,7 +35,7 @@ loop-less c = omega arith
 loop-again : tie.Need-loop-again Inv-loop μ-loop
 loop-again c =
     let s = c .before .before .before .before .args .store .now in
-    let step = sum-more (c .before .before .loop .desk) (reservedAt s) in
+    let step = sum-next (c .before .before .loop .desk) (reservedAt s) in
     omega arith
 
 returns : tie.Need-returns Inv-loop μ-loop

@@ -3,9 +3,10 @@ use mathlib.Core.Bool.{true, false}
 use mathlib.Core.Path.{_≡_, sym, _∙_}
 use Prim.Native.Nat.{_+_}
 use borrow.Author.Needs.{needs}
+use Rattle.numbers.specs.Every.{all}
 use Rattle.contexts.specs.Sitting.{first}
 use Rattle.store.specs.Layout.{deskStart, symbolsAt, slotsAt}
-use Rattle.store.specs.Sound.{all, below}
+use Rattle.store.specs.Sound.{below}
 use Rattle.store.proofs.Desks.{slots-lent}
 use Rattle.store.proofs.soundness.slots_ok.Statement.{statement}
 use Rattle.store.proofs.soundness.slots_ok.Tie as tie

@@ -3,8 +3,8 @@ use mathlib.Core.Path.{_≡_, refl}
 use Prim.Native.Nat.{ℕ, _-_, _*_, _%_, _^_, _<_}
 use native.Mathlib.Omega.{arith}
 use borrow.Author.Needs.{needs}
-use Rattle.store.specs.Walk.{weight}
-use Rattle.store.proofs.Digits.{each-length}
+use Rattle.contexts.specs.Keys.{weight}
+use Rattle.contexts.proofs.Digits.{each-length}
 use Rattle.store.proofs.soundness.weight_of.Statement.{statement}
 use Rattle.store.proofs.soundness.weight_of.Tie as tie
 

@@ -8,9 +8,8 @@ use lib.ListN.{length, length-append}
 use lib.Seq.{take-at}
 use lib.Dec.{T, eqb, eqb→eq}
 use Rattle.numbers.proofs.Tests.{both, left, right}
-use Rattle.contexts.specs.Context.{isContext, begins}
+use Rattle.contexts.specs.Context.{isContext, parentOf, begins}
 use Rattle.contexts.proofs.Strings.{newest-below, older-context, context-cons}
-use Rattle.store.specs.Sound.{parentOf}
 
 -- a context is empty, or has an oldest symbol
 pub data Oldest (s : List ℕ) : Type 0 where

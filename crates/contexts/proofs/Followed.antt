@@ -1,6 +1,6 @@
 -- The contexts that a symbol follows: those that begin the recent symbols, one of each length. Assumes nothing.
-use mathlib.Core.Path.{_≡_, sym, ap, subst, _∙_}
-use mathlib.Core.Bool.{_&&_}
+use mathlib.Core.Path.{_≡_, refl, sym, ap, subst, _∙_}
+use mathlib.Core.Bool.{Bool, _&&_}
 use mathlib.Core.List.{List, [], _∷_}
 use Prim.Native.Nat.{ℕ, zero, suc, _≤_}
 use native.Mathlib.Omega.{arith}
@@ -43,3 +43,10 @@ pub begins-all : (s r : List ℕ) → (begins s r && ltb (length s) (suc (length
 begins-all s r =
     bool-ext _ _ (left (begins s r) (ltb (length s) (suc (length r))))
     (λ h. both (begins s r) _ h (lt→ltb (length s) (suc (length r)) (let l = begins-length s r h in omega arith)))
+
+-- a context no longer than D begins a string where it begins its last D symbols
+pub begins-recent : (D : ℕ) (s w : List ℕ) → length s ≤ D → begins s (take D w) ≡ begins s w
+begins-recent D [] w l = refl
+begins-recent zero (x ∷ s) w l = absurd (omega arith)
+begins-recent (suc D) (x ∷ s) [] l = refl
+begins-recent (suc D) (x ∷ s) (y ∷ w) l = ap (λ (z : Bool). eqb x y && z) (begins-recent D s w (omega arith))

@@ -1,4 +1,4 @@
--- A key's digits: what the arithmetic of the pass says of a key's context and of its parent. Assumes nothing.
+-- A key's digits: its context's symbols and length, and that a key with nothing past its length is that of its context. Assumes nothing.
 use mathlib.Core.Path.{_≡_, refl, sym, ap, _∙_}
 use mathlib.Core.List.{List, [], _∷_}
 use Prim.Native.Nat.{ℕ, zero, suc, _+_, _-_, _*_, _/_, _%_, _^_, _≤_, _<_}
@@ -8,11 +8,10 @@ use lib.ListN.{length}
 use lib.Arith.{digits-mod, mod-mul}
 use lib.Dec.{T}
 use Rattle.numbers.specs.Limits.{mostSymbols, deepest}
 use Rattle.contexts.specs.Context.{isContext}
-use Rattle.contexts.specs.Keys.{digits, deskSpan, keyOf, deskOf, symbolsOf, contextOf}
+use Rattle.contexts.specs.Keys.{digits, deskSpan, keyOf, deskOf, lenOf, weight, symbolsOf, contextOf}
 use Rattle.contexts.proofs.Strings.{context-cons, context-length}
 use Rattle.contexts.proofs.KeyOrder.{Within, pow-pos, digits-nil}
-use Rattle.store.specs.Walk.{lenOf, weight}
 
 -- a fact of each length below 8
 pub each-length : (P : ℕ → Type 0) → P 0 → P 1 → P 2 → P 3 → P 4 → P 5 → P 6 → P 7 → (l : ℕ) → l < 8 → P l
