@@ -29,12 +29,12 @@ use Rattle.rows.proofs.Scoring.{members-limit}
 use Rattle.records.specs.Records.{width, records, key, keys, lookup}
 use Rattle.records.specs.Held.{held, Standing}
 use Rattle.records.proofs.Finding.{Place, held-place, lookup-place, lookup-absent}
+use Rattle.records.proofs.Counting.{total-blank}
 use Rattle.store.specs.Layout.{headerSize, used, symbolsAt, depthAt, sizeAt, recordsIn, totalOf}
 use Rattle.store.specs.Sound.{soundb}
 use Rattle.store.specs.Plain.{Open, Counts, Sound, totalAt}
 use Rattle.store.specs.Meaning.{openingAt, progressAt, sittingAt, deskAt, meaning, SittingFits, Fits}
 use Rattle.store.proofs.Parts.{records-length}
-use Rattle.store.proofs.Rising.{blank-total}
 use Rattle.store.proofs.Passing.{Passed, passed}
 use Rattle.store.proofs.Standing.{sound-stands}
 use Rattle.store.proofs.Fitting.{desk-opened, meaning-fits}
@@ -98,7 +98,7 @@ module _ (s : List ℕ) (d : ℕ) (sound : soundb s ≡ true) (at-desk : Open s 
     where
       go : (b : Bool) → held k (recordsIn s) ≡ b → T b
       go true e = tt
-      go false e = absurd (let z = ap (totalOf i) (lookup-absent k (recordsIn s) e) ∙ blank-total i k in omega arith)
+      go false e = absurd (let z = ap (totalOf i) (lookup-absent k (recordsIn s) e) ∙ total-blank i k in omega arith)
 
   parent : (t : List ℕ) (a : ℕ) → T (held (keyOf d (older t a)) (recordsIn s)) → T (isContext (symbolsAt s d) (depthAt s d) (older t a)) → T (held (keyOf d t) (recordsIn s))
   parent t a h c = go (order 0 (totalAt s d first (older t a)))
