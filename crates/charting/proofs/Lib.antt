@@ -1,0 +1,4 @@
+pub mod Digits
+pub mod Unreading
+pub mod Joining
+pub mod Verdicts
