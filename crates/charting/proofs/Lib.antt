@@ -1,4 +1,6 @@
 pub mod Digits
-pub mod Unreading
+pub mod CodeWalk
 pub mod Joining
 pub mod Verdicts
+pub mod Settling
+pub mod Examples

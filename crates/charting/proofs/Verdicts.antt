@@ -29,7 +29,7 @@ use Rattle.calls.proofs.Settled.{asks-answered}
 use Rattle.charting.specs.declared.Named.the-variants.{Key, NoContext}
 use Rattle.charting.specs.Naming.{named}
 use Rattle.charting.specs.Reading.{Readable}
-use Rattle.charting.proofs.Unreading.{named-key, named-none}
+use Rattle.charting.proofs.CodeWalk.{named-key, named-none}
 use Rattle.charting.proofs.Joining.{chart-read, readable}
 
 module _ (s : List ℕ) (e : soundb s ≡ true) (d : ℕ) where

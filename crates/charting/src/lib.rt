@@ -1,4 +1,4 @@
-// The chart question at a desk of a store: what a symbol's share is in the context that a length and a code name.
+// The chart question at a desk of a store: a symbol's share in the context that a length and a code name.
 ghost use mathlib.Core.Path.{_≡_};
 ghost use Prim.Native.Nat.{_-_, _^_, _≤_, _<_};
 ghost use Rattle.numbers.specs.Limits.{deepest, desks};
@@ -88,7 +88,7 @@ fn key_of(symbols: u32, desk: u32, length: u32, code: u32) -> Named
     Named::NoContext
 }
 
-// What a symbol weighs in a key that has so many more recent ones.
+// What a symbol weighs in a key that has so many more recent ones: 8^6 for the most recent, and an eighth for each place back.
 fn weight_of(newer: u32) -> u32
     requires { ⌜ newer < deepest ⌝ }
     ensures { λ r. ⌜ r ≡ 8 ^ (deepest - newer) ⌝ }

@@ -1,7 +1,9 @@
 -- `charting::key_of` meets its contract: what has been read of the code stands in the key, and the rest decides. Assumes nothing.
 use Prim.Native.Nat.{_+_, _*_, _%_, _<_}
 use native.Mathlib.Omega.{arith}
-use Rattle.charting.proofs.Unreading.{Unread, unread-start, unread-on, unread-fits, unread-outside, unread-longer, unread-end}
+use Rattle.numbers.specs.Limits.{desks}
+use Rattle.contexts.specs.Keys.{deskSpan}
+use Rattle.charting.proofs.CodeWalk.{Unread, unread-start, unread-on, unread-fits, unread-outside, unread-longer, unread-end}
 use Rattle.charting.proofs.key_of.Statement.{statement}
 use Rattle.charting.proofs.key_of.Tie as tie
 
@@ -31,7 +33,7 @@ weight-of-requires : tie.Need-weight-of-requires Inv-loop μ-loop
 weight-of-requires c κs = omega (arith, c .before .before .loop .inv .within)
 
 -- the longer key fits, by the weight that was worked out
-next-fits : (c : tie.After-weight-of Inv-loop μ-loop) → c .before .before .before .loop .key + (c .before .before .before .loop .rest % 8 * c .weight-of .result + 1) < 16777216
+next-fits : (c : tie.After-weight-of Inv-loop μ-loop) → c .before .before .before .loop .key + (c .before .before .before .loop .rest % 8 * c .weight-of .result + 1) < desks * deskSpan
 next-fits c =
     let start = c .before .before .before .before in
     let x = start .args in

@@ -31,7 +31,7 @@ module _ (A d len code : ℕ) (few : len ≤ deepest) where
         key-rest = rw whole (omega (arith, decoded-length len code));
       }
 
-  pub decoded-short : Within (decoded len code)
+  decoded-short : Within (decoded len code)
   decoded-short = context-more mostSymbols mostSymbols len deepest (decoded len code) (omega arith) few (decoded-within len code)
 
   module _ (key rest : ℕ) where
@@ -56,7 +56,7 @@ module _ (A d len code : ℕ) (few : len ≤ deepest) where
         })
 
     -- the longer key fits
-    pub unread-fits : d < desks → (left : ℕ) → Unread A d len code key rest left → 0 < left → key + (rest % 8 * 8 ^ (deepest - (len - left)) + 1) < 16777216
+    pub unread-fits : d < desks → (left : ℕ) → Unread A d len code key rest left → 0 < left → key + (rest % 8 * 8 ^ (deepest - (len - left)) + 1) < desks * deskSpan
     unread-fits desk zero u some = absurd (omega arith)
     unread-fits desk (suc l) u some = omega (arith, u .key-rest, newest-part l (u .within), contextKey-lt (decoded len code) decoded-short)
 
