@@ -1,10 +1,10 @@
 -- How long texts are at most: a number of 32 bits has ten digits, one of 64 bits with its sign twenty bytes. Assumes nothing.
 use Prim.Native.Nat.{ℕ, zero, suc, _+_, _*_, _/_, _%_, _^_, _<_, _≤_}
 use native.Mathlib.Omega.{arith}
-use native.Mathlib.Nat.{pow-suc, suc-mul, le-trans, lt-of-lt-of-le, lt-of-le-of-lt, mul-le-mul-left}
+use native.Mathlib.Nat.{pow-suc, suc-mul, lt-of-lt-of-le, lt-of-le-of-lt}
 use native.Mathlib.Decide.{decLe}
-use mathlib.Core.Path.{_≡_, refl, sym, ap, _∙_}
-use mathlib.Core.List.{List, [], _∷_, _++_, map}
+use mathlib.Core.Path.{ap, _∙_}
+use mathlib.Core.List.{List, [], _∷_, map}
 use lib.Dec.{lit≤, lit<}
 use lib.IntN.{ℤ, pos, negsuc}
 use lib.ListN.{length, getD, take, drop, length-append, length-map, length-take}

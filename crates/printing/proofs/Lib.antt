@@ -4,3 +4,6 @@ pub mod Negative
 pub mod Lines
 pub mod Reports
 pub mod Lengths
+pub mod Settled
+pub mod Reading
+pub mod Examples

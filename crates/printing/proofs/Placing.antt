@@ -1,12 +1,12 @@
--- Texts put one after another, and what a put text settles. Assumes nothing.
-use Prim.Native.Nat.{ℕ, _+_, _<_, _≤_}
+-- A text put into bytes, and one text after another. Assumes nothing.
+use Prim.Native.Nat.{ℕ, _+_, _<_}
 use native.Mathlib.Omega.{arith}
 use native.Mathlib.Numerals.{add-one}
 use native.Mathlib.Nat.{add-zero}
 use mathlib.Core.Path.{_≡_, refl, sym, ap, ap₂, _∙_}
 use mathlib.Core.List.{List, [], _∷_, _++_, append-assoc}
 use lib.ListN.{length, getD, take, drop, set, length-append, length-take, length-drop, take-append-drop}
-use lib.Seq.{take-suc, set-split, take-at, drop-at, drop-append-add, drop-drop, length-take-le}
+use lib.Seq.{take-suc, set-split, take-at, drop-at, drop-drop, length-take-le}
 use Rattle.printing.specs.Putting.{laid, HasRoom, Puts}
 
 -- ---- one text

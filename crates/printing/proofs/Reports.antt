@@ -1,17 +1,17 @@
--- Rows, reports and refusals as they are put: line by line. Assumes nothing.
+-- Rows as they are put, line by line. Assumes nothing.
 use Prim.Native.Nat.{ℕ, zero, suc, _+_, _-_, _*_, _<_, _≤_}
 use native.Mathlib.Omega.{arith}
 use native.Mathlib.Nat.{le-refl}
 use native.Mathlib.Numerals.{add-one}
 use native.Mathlib.Decide.{decLe}
-use mathlib.Core.Path.{_≡_, refl, sym, ap, _∙_}
-use mathlib.Core.List.{List, [], _∷_, _++_, map, map-append}
+use mathlib.Core.Path.{_≡_, sym, ap, ap₂, _∙_}
+use mathlib.Core.List.{List, [], _∷_, _++_, map, map-append, append-assoc, append-nil}
 use lib.IntN.{ℤ, pos}
 use lib.ListN.{length, getD, take, drop, length-append, length-drop}
-use lib.Seq.{take-suc, length-take-le}
+use lib.Seq.{take-suc, take-at, drop-append-add, length-take-le}
 use Rattle.printing.specs.Text.{lineOf, rowText, rowWidth, rowAt, rowsText}
 use Rattle.printing.specs.Putting.{HasRoom, Puts, Printable}
-use Rattle.printing.proofs.Placing.{room-front, room-back, puts-then}
+use Rattle.printing.proofs.Placing.{room-back, puts-then}
 
 -- a row's line is that of its numbers before the last count, and of the last count
 pub row-line : (A : ℕ) (row : List ℕ) (z : ℤ) → 3 + A ≤ length row → z ≡ pos (getD row (2 + A) 0) → lineOf (map pos (take (2 + A) row) ++ (z ∷ [])) ≡ rowText A row
@@ -33,23 +33,40 @@ rows-longer A sheet j (suc k) l = elim (decLe j k) [
 pub row-lent : (sheet : List ℕ) (k : ℕ) → take (rowWidth * k + rowWidth - rowWidth * k) (drop (rowWidth * k) sheet) ≡ rowAt sheet k
 row-lent sheet k = let e : rowWidth * k + rowWidth - rowWidth * k ≡ rowWidth = omega arith in ap (λ (n : ℕ). take n (drop (rowWidth * k) sheet)) e
 
--- after k rows
-module _ (A rows : ℕ) (sheet : List ℕ) (known : Printable A rows sheet) (k : ℕ) (more : k < rows) where
+-- THEOREM. The text of a sheet's rows is the first row's line and then the text of the others
+pub rows-first : (A k : ℕ) (row sheet : List ℕ) → length row ≡ rowWidth → rowsText A (suc k) (row ++ sheet) ≡ rowText A row ++ rowsText A k sheet
+unfolding rowsText
+rows-first A zero row sheet e = ap (rowText A) (take-at row sheet rowWidth e) ∙ sym (append-nil (rowText A row))
+rows-first A (suc k) row sheet e =
+    ap₂ (λ (t u : List ℕ). t ++ u) (rows-first A k row sheet e) (ap (rowText A) other)
+    ∙ append-assoc (rowText A row) (rowsText A k sheet) (rowText A (rowAt sheet k))
+  where
+    other : rowAt (row ++ sheet) (suc k) ≡ rowAt sheet k
+    other =
+        let n : rowWidth * suc k ≡ length row + rowWidth * k = omega arith in
+        ap (take rowWidth) (ap (λ (m : ℕ). drop m (row ++ sheet)) n ∙ drop-append-add row sheet (rowWidth * k))
+
+-- the first k rows of a report have been put
+pub record Begun (A rows : ℕ) (sheet : List ℕ) (at : ℕ) (a : List ℕ) (k : ℕ) (b : List ℕ) (next : ℕ) : Type 0 where
+  pub known : Printable A rows sheet
+  pub room : HasRoom (rowsText A rows sheet) at a
+  pub so-far : Puts (rowsText A k sheet) at a b next
+
+module _ {A rows : ℕ} {sheet : List ℕ} {at : ℕ} {a : List ℕ} {k : ℕ} {b : List ℕ} {next : ℕ} (begun : Begun A rows sheet at a k b next) (more : k < rows) where
   pub row-long : 3 + A ≤ length (rowAt sheet k)
   row-long =
-      let w : rowWidth * k + rowWidth ≤ rowWidth * rows = omega arith in
-      rw (length-take-le rowWidth (drop (rowWidth * k) sheet) (rw length-drop (omega (arith, known .whole)))) (omega (arith, known .alphabet))
+      let w : rowWidth * k + rowWidth ≤ length sheet = omega (arith, begun .known .whole) in
+      rw (length-take-le rowWidth (drop (rowWidth * k) sheet) (rw length-drop (omega arith))) (omega (arith, begun .known .alphabet))
 
-  module _ (at : ℕ) (a : List ℕ) (room : HasRoom (rowsText A rows sheet) at a) (b : List ℕ) (next : ℕ) (so-far : Puts (rowsText A k sheet) at a b next) where
-    one-more : rowsText A (k + 1) sheet ≡ rowsText A k sheet ++ rowText A (rowAt sheet k)
-    unfolding rowsText
-    one-more = rw add-one
+  one-more : rowsText A (k + 1) sheet ≡ rowsText A k sheet ++ rowText A (rowAt sheet k)
+  unfolding rowsText
+  one-more = rw add-one
 
-    beginning : HasRoom (rowsText A (k + 1) sheet) at a
-    beginning = omega (arith, rows-longer A sheet (k + 1) rows (omega arith))
+  beginning : HasRoom (rowsText A (k + 1) sheet) at a
+  beginning = omega (arith, begun .room, rows-longer A sheet (k + 1) rows (omega arith))
 
-    pub room-row : HasRoom (rowText A (rowAt sheet k)) next b
-    room-row = room-back (rowsText A (k + 1) sheet) (rowsText A k sheet) (rowText A (rowAt sheet k)) one-more at a beginning b next so-far
+  pub room-row : HasRoom (rowText A (rowAt sheet k)) next b
+  room-row = room-back _ _ _ one-more at a beginning b next (begun .so-far)
 
-    pub puts-row : (c : List ℕ) (s : ℕ) → Puts (rowText A (rowAt sheet k)) next b c s → Puts (rowsText A (k + 1) sheet) at a c s
-    puts-row c s row = puts-then (rowsText A (k + 1) sheet) (rowsText A k sheet) (rowText A (rowAt sheet k)) one-more at a beginning b next so-far c s row
+  pub puts-row : (c : List ℕ) (s : ℕ) → Puts (rowText A (rowAt sheet k)) next b c s → Puts (rowsText A (k + 1) sheet) at a c s
+  puts-row c s row = puts-then _ _ _ one-more at a beginning b next (begun .so-far) c s row

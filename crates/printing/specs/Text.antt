@@ -25,7 +25,7 @@ minus = 45
 abbrev pub digit : ℕ → ℕ
 digit d = 48 + d
 
--- n in at most k digits, the last of them last
+-- n in at most k digits, the last of them last (`front` is worked out only where it stands)
 unfoldable pub spelled : ℕ → ℕ → List ℕ
 spelled zero n = []
 spelled (suc k) n = let front = spelled k (n / 10) in cond (ltb n 10) [] front ++ (digit (n % 10) ∷ [])

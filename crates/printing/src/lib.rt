@@ -1,15 +1,14 @@
 // What the program prints, as text put into lent bytes.
 ghost use mathlib.Core.Path.{_≡_};
 ghost use mathlib.Core.List.{[], _∷_, _++_, map};
-ghost use Prim.Native.Nat.{_+_, _*_, _≤_, _<_};
+ghost use Prim.Native.Nat.{_+_, _≤_, _<_};
 ghost use lib.IntN.{pos, natAbs};
-ghost use lib.ListN.{length, take, drop};
-ghost use Rattle.numbers.specs.Limits.{mostSymbols};
-ghost use Rattle.printing.specs.Text.{decimal, lineOf, headText, rowText, rowsText, reportText, refusalText, rowWidth};
+ghost use lib.ListN.{length};
+ghost use Rattle.printing.specs.Text.{decimal, lineOf, headText, rowText, rowsText, reportText, refusalText};
 ghost use Rattle.printing.specs.Text.{digit as Text·digit, signed as Text·signed};
-ghost use Rattle.printing.specs.Putting.{HasRoom, Puts, Printable};
+ghost use Rattle.printing.specs.Putting.{Printable, Printed, HasRoom, Puts};
 
-// The numbers of a report's first line.
+// The numbers of a report's first line: A, D, n, m, the row count and the doubled score.
 pub struct Head {
     pub alphabet: u32,
     pub depth: u32,
@@ -24,16 +23,16 @@ pub const TEXT_BYTES: usize = 65536;
 
 const ROW_WIDTH: usize = 11;
 
-const LINE_FEED: u8 = 10;
+const LINE_FEED: u8 = b'\n';
 
-const BLANK: u8 = 32;
+const BLANK: u8 = b' ';
 
-const MINUS: u8 = 45;
+const MINUS: u8 = b'-';
 
 // Puts a report at the start of the buffer, and answers how many bytes it has.
-pub fn put_report(buffer: &mut [u8; 65536], head: Head, sheet: &[u32]) -> usize
+pub fn put_report(buffer: &mut [u8; TEXT_BYTES], head: Head, sheet: &[u32]) -> usize
     requires { ⌜ Printable (head .alphabet) (head .rows) (now sheet) ⌝ }
-    ensures { λ r. ⌜ Puts (reportText (head .alphabet) (head .depth) (head .first) (head .second) (head .rows) (head .score) (now (sheet .entry))) 0 (now (buffer .entry)) (now (buffer .exit)) r ⌝ }
+    ensures { λ r. ⌜ Printed (reportText (head .alphabet) (head .depth) (head .first) (head .second) (head .rows) (head .score) (now (sheet .entry))) (now (buffer .entry)) (now (buffer .exit)) r ⌝ }
 {
     let at = put_head(buffer, head);
     put_rows(
@@ -46,8 +45,8 @@ pub fn put_report(buffer: &mut [u8; 65536], head: Head, sheet: &[u32]) -> usize
 }
 
 // Puts a refusal's line at the start of the buffer, and answers how many bytes it has.
-pub fn put_refusal(buffer: &mut [u8; 65536], number: u32) -> usize
-    ensures { λ r. ⌜ Puts (refusalText number) 0 (now (buffer .entry)) (now (buffer .exit)) r ⌝ }
+pub fn put_refusal(buffer: &mut [u8; TEXT_BYTES], number: u32) -> usize
+    ensures { λ r. ⌜ Printed (refusalText number) (now (buffer .entry)) (now (buffer .exit)) r ⌝ }
 {
     let at = put_bytes(buffer, 0, b"refused ");
     put_line(buffer, at, &[], number as i64)
@@ -152,7 +151,7 @@ fn digit(d: u64) -> u8
     requires { ⌜ d < 10 ⌝ }
     ensures { λ r. ⌜ r ≡ Text·digit d ⌝ }
 {
-    48 + d as u8
+    b'0' + d as u8
 }
 
 fn put_bytes(buffer: &mut [u8], at: usize, text: &[u8]) -> usize

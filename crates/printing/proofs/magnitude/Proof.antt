@@ -3,8 +3,6 @@ use borrow.Author.Needs.{needs}
 use Rattle.printing.proofs.Negative.{next-fits, flipped-fits, flipped-cast, one-more-fits, is-magnitude, from-zero}
 use Rattle.printing.proofs.magnitude.Statement.{statement}
 use Rattle.printing.proofs.magnitude.Tie as tie
-use Rattle.printing.proofs.magnitude.Reads as reads
-use Rattle.printing.proofs.magnitude.Lts as lts
 
 add-result : tie.Need-add-result
 add-result c = next-fits (c .before .args .z) (c .before .fits .z) (c .if1 .taken)

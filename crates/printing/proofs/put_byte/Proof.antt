@@ -3,22 +3,16 @@ use borrow.Author.Needs.{needs}
 use Rattle.printing.proofs.Placing.{puts-byte}
 use Rattle.printing.proofs.put_byte.Statement.{statement}
 use Rattle.printing.proofs.put_byte.Tie as tie
-use Rattle.printing.proofs.put_byte.Reads as reads
-use Rattle.printing.proofs.put_byte.Lts as lts
 
--- src/lib.rt:174:5
 slice-write-buffer : tie.Need-slice-write-buffer
 slice-write-buffer c = search needs
 
--- src/lib.rt:175:5
 add-result : tie.Need-add-result
 add-result c = search needs
 
--- src/lib.rt:170:1
 same-length : tie.Need-same-length
 same-length c = search needs
 
--- src/lib.rt:170:1
 returns : tie.Need-returns
 returns c = puts-byte (c .args .byte) (c .args .at) (c .args .buffer .now) (c .pre)
 

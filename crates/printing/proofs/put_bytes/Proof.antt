@@ -9,8 +9,6 @@ use Rattle.printing.specs.Putting.{Puts}
 use Rattle.printing.proofs.Placing.{puts-length, puts-none, next-room, puts-next}
 use Rattle.printing.proofs.put_bytes.Statement.{statement}
 use Rattle.printing.proofs.put_bytes.Tie as tie
-use Rattle.printing.proofs.put_bytes.Reads as reads
-use Rattle.printing.proofs.put_bytes.Lts as lts
 
 abbrev Inv-loop : tie.InvT-loop
 Inv-loop buffer₀ at text i₀ buffer i = (i ≤ length text) × Puts (take i text) at buffer₀ buffer (at + i)

@@ -5,23 +5,16 @@ use mir.Facts.{toZ-ofZ}
 use borrow.Author.Needs.{needs}
 use Rattle.printing.proofs.put_head.Statement.{statement}
 use Rattle.printing.proofs.put_head.Tie as tie
-use Rattle.printing.proofs.put_head.Reads as reads
-use Rattle.printing.proofs.put_head.Lts as lts
-use Rattle.printing.proofs.put_line.Reads as put-line-reads
 
--- src/lib.rt:67:25
 slice-aggregate-put-line : tie.Need-slice-aggregate-put-line
 slice-aggregate-put-line c = search needs
 
--- src/lib.rt:67:5
 put-line-requires : tie.Need-put-line-requires
 put-line-requires c κs = search needs
 
--- src/lib.rt:56:1
 same-length : tie.Need-same-length
 same-length c = search needs
 
--- src/lib.rt:56:1
 returns : tie.Need-returns
 returns c =
     let p = c .before .before in

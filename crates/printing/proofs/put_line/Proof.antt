@@ -1,7 +1,6 @@
 -- `printing::put_line` meets its contract: after i turns the first i numbers are put, each with its blank. Assumes nothing.
-use Prim.Native.Nat.{ℕ, _-_, _≤_}
+use Prim.Native.Nat.{_-_, _≤_}
 use native.Mathlib.Omega.{arith}
-use mathlib.Core.Path.{_≡_, ap, _∙_}
 use mathlib.Core.List.{[], _∷_, _++_, map}
 use lib.IntN.{pos}
 use lib.ListN.{length, take}
@@ -9,21 +8,18 @@ use mir.Facts.{toZ-ofZ}
 use Rattle.printing.specs.Text.{lineOf}
 use Rattle.printing.specs.Putting.{Puts}
 use Rattle.printing.proofs.Placing.{puts-length, puts-none}
-use Rattle.printing.proofs.Lines.{parted, room-number, room-blank, puts-number, room-end, room-feed, puts-line}
+use Rattle.printing.proofs.Lines.{parted, Begun, room-number, room-blank, puts-number, room-end, room-feed, puts-line}
 use Rattle.printing.proofs.put_line.Statement.{statement}
 use Rattle.printing.proofs.put_line.Tie as tie
-use Rattle.printing.proofs.put_line.Reads as reads
-use Rattle.printing.proofs.put_line.Lts as lts
-use Rattle.printing.proofs.put_byte.Reads as put-byte-reads
-use Rattle.printing.proofs.put_decimal.Reads as put-decimal-reads
-use Rattle.printing.proofs.put_signed.Reads as put-signed-reads
-use Rattle.printing.proofs.wide.Reads as wide-reads
 
 abbrev Inv-loop : tie.InvT-loop
 Inv-loop buffer₀ at numbers last next₀ i₀ buffer next i = (i ≤ length numbers) × Puts (parted (take i numbers)) at buffer₀ buffer next
 
 abbrev μ-loop : tie.MeasureT-loop
 μ-loop buffer₀ at numbers last next₀ i₀ buffer next i = length numbers - i
+
+begun : (l : tie.At-loop Inv-loop μ-loop) → let s = l .before .before .before in Begun (s .args .numbers .now) (s .args .last) (s .args .at) (s .args .buffer .now) (l .loop .i) (l .loop .buffer) (l .loop .next)
+begun l = record { room = l .before .before .before .pre; so-far = l .loop .inv .1 }
 
 loop-holds : tie.Need-loop-holds Inv-loop μ-loop
 loop-holds c = (omega arith, puts-none _ _)
@@ -39,17 +35,15 @@ wide-requires c κs = tt
 
 put-decimal-requires : tie.Need-put-decimal-requires Inv-loop μ-loop
 put-decimal-requires c κs =
-    let l = c .before .before .before .before in
-    let s = l .before .before .before in
-    room-number (s .args .numbers .now) (s .args .last) (s .args .at) (s .args .buffer .now) (s .pre) (l .loop .i) (l .loop .buffer) (l .loop .next) (l .loop .inv .1) (c .before .before .before .loop-test .taken) (c .wide .result) (c .wide .ensures)
+    let t = c .before .before .before in
+    room-number (begun (t .before)) (t .loop-test .taken) (c .wide .result) (c .wide .ensures)
 
 put-byte-requires : tie.Need-put-byte-requires Inv-loop μ-loop
 put-byte-requires c κs =
     let d = c .before .before .before in
     let w = d .before in
-    let l = w .before .before .before .before in
-    let s = l .before .before .before in
-    room-blank (s .args .numbers .now) (s .args .last) (s .args .at) (s .args .buffer .now) (s .pre) (l .loop .i) (l .loop .buffer) (l .loop .next) (l .loop .inv .1) (w .before .before .before .loop-test .taken) (w .wide .result) (w .wide .ensures) _ _ (d .put-decimal .ensures)
+    let t = w .before .before .before in
+    room-blank (begun (t .before)) (t .loop-test .taken) (w .wide .result) (w .wide .ensures) _ _ (d .put-decimal .ensures)
 
 add-i : tie.Need-add-i Inv-loop μ-loop
 add-i c = omega arith
@@ -62,42 +56,31 @@ loop-again c =
     let b = c .before .before in
     let d = b .before .before .before .before in
     let w = d .before in
-    let l = w .before .before .before .before in
-    let s = l .before .before .before in (
-      omega arith,
-      puts-number (s .args .numbers .now) (s .args .last) (s .args .at) (s .args .buffer .now) (s .pre) (l .loop .i) (l .loop .buffer) (l .loop .next) (l .loop .inv .1) (w .before .before .before .loop-test .taken) (w .wide .result) (w .wide .ensures) _ _ (d .put-decimal .ensures) _ _ (b .put-byte .ensures),
-    )
+    let t = w .before .before .before in
+    (omega arith, puts-number (begun (t .before)) (t .loop-test .taken) (w .wide .result) (w .wide .ensures) _ _ (d .put-decimal .ensures) _ _ (b .put-byte .ensures))
 
 put-signed-requires : tie.Need-put-signed-requires Inv-loop μ-loop
 put-signed-requires c κs =
     let o = c .before in
-    let l = o .before in
-    let s = l .before .before .before in
-    room-end (s .args .numbers .now) (s .args .last) (s .args .at) (s .args .buffer .now) (s .pre) (l .loop .i) (l .loop .buffer) (l .loop .next) (l .loop .inv .1) (o .loop-test .left) _ (toZ-ofZ (s .fits .last))
+    room-end (begun (o .before)) (o .loop-test .left) _ (toZ-ofZ (o .before .before .before .before .fits .last))
 
 put-byte-requires-2 : tie.Need-put-byte-requires-2 Inv-loop μ-loop
 put-byte-requires-2 c κs =
     let d = c .before .before .before in
     let o = d .before .before in
-    let l = o .before in
-    let s = l .before .before .before in
-    room-feed (s .args .numbers .now) (s .args .last) (s .args .at) (s .args .buffer .now) (s .pre) (l .loop .i) (l .loop .buffer) (l .loop .next) (l .loop .inv .1) (o .loop-test .left) _ (toZ-ofZ (s .fits .last)) _ _ (d .put-signed .ensures)
+    room-feed (begun (o .before)) (o .loop-test .left) _ (toZ-ofZ (o .before .before .before .before .fits .last)) _ _ (d .put-signed .ensures)
 
 returns : tie.Need-returns Inv-loop μ-loop
 returns c =
     let b = c .before .before in
     let d = b .before .before .before .before in
     let o = d .before .before in
-    let l = o .before in
-    let s = l .before .before .before in
-    puts-line (s .args .numbers .now) (s .args .last) (s .args .at) (s .args .buffer .now) (s .pre) (l .loop .i) (l .loop .buffer) (l .loop .next) (l .loop .inv .1) (o .loop-test .left) _ (toZ-ofZ (s .fits .last)) _ _ (d .put-signed .ensures) _ _ (b .put-byte2 .ensures)
-
-start : tie.After-slice-known5 Inv-loop μ-loop → tie.Start Inv-loop μ-loop
-start c = c .before .before .before .before .before .before .before .before .before .before .before .before
+    puts-line (begun (o .before)) (o .loop-test .left) _ (toZ-ofZ (o .before .before .before .before .fits .last)) _ _ (d .put-signed .ensures) _ _ (b .put-byte2 .ensures)
 
 same-length : tie.Need-same-length Inv-loop μ-loop
-unfolding start
-same-length c = let s = start c in puts-length (lineOf (map pos (s .args .numbers .now) ++ (s .args .last ∷ []))) (s .args .at) (s .args .buffer .now) (s .pre) _ _ (returns c)
+same-length c =
+    let s = c .before .before .before .before .before .before .before .before .before .before .before .before in
+    puts-length (lineOf (map pos (s .args .numbers .now) ++ (s .args .last ∷ []))) (s .args .at) (s .args .buffer .now) (s .pre) _ _ (returns c)
 
 pub put-line-spec : {M : Type 1} → statement M
 put-line-spec =

@@ -1,9 +1,8 @@
 -- `printing::put_refusal` meets its contract: the word, then the number's line. Assumes nothing.
-use Prim.Native.Nat.{ℕ}
 use native.Mathlib.Omega.{arith}
 use mathlib.Core.Path.{_≡_, refl}
 use mathlib.Core.List.{[], _∷_}
-use lib.IntN.{ℤ, pos}
+use lib.IntN.{pos}
 use mir.Syntax.{w64}
 use mir.Val.{toZ}
 use mir.Facts.{toZ-pos}
@@ -12,6 +11,7 @@ use Rattle.printing.specs.Text.{ascii, lineOf, refusalText}
 use Rattle.printing.specs.Putting.{HasRoom}
 use Rattle.printing.proofs.Placing.{room-back, puts-then}
 use Rattle.printing.proofs.Lengths.{refusal-fits}
+use Rattle.printing.proofs.Settled.{put-printed}
 use Rattle.printing.proofs.put_refusal.Statement.{statement}
 use Rattle.printing.proofs.put_refusal.Tie as tie
 
@@ -46,7 +46,8 @@ unfolding ascii
 returns c =
     let b = c .before .before .before in
     let s = b .before .before .before in
-    puts-then (refusalText (s .args .number)) (ascii "refused ") (lineOf (pos (s .args .number) ∷ [])) refl 0 (s .args .buffer .now) (room (b .before .before)) _ _ (b .put-bytes .ensures) _ _ (rw (read s) at (c .put-line .ensures))
+    put-printed (refusalText (s .args .number)) (s .args .buffer .now) _ _ (room (b .before .before))
+    (puts-then (refusalText (s .args .number)) (ascii "refused ") (lineOf (pos (s .args .number) ∷ [])) refl 0 (s .args .buffer .now) (room (b .before .before)) _ _ (b .put-bytes .ensures) _ _ (rw (read s) at (c .put-line .ensures)))
 
 pub put-refusal-spec : {M : Type 1} → statement M
 put-refusal-spec = tie.close (tie.spec slice-aggregate-put-bytes put-bytes-requires slice-aggregate-put-line cast-put-line put-line-requires returns)

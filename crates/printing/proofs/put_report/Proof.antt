@@ -1,16 +1,14 @@
 -- `printing::put_report` meets its contract: the first line, then the rows, and the text fits. Assumes nothing.
-use Prim.Native.Nat.{ℕ, _<_, _^_}
+use Prim.Native.Nat.{ℕ}
 use native.Mathlib.Omega.{arith}
-use mathlib.Core.Path.{_≡_, refl}
+use mathlib.Core.Path.{refl}
 use mathlib.Core.List.{List, _++_}
-use lib.IntN.{ℤ}
-use mir.Syntax.{w64}
-use mir.Val.{SFits}
 use borrow.Author.Needs.{needs}
-use Rattle.printing.specs.Text.{headText, rowsText, reportText}
+use Rattle.printing.specs.Text.{headText, rowsText}
 use Rattle.printing.specs.Putting.{HasRoom}
 use Rattle.printing.proofs.Placing.{room-front, room-back, puts-then}
 use Rattle.printing.proofs.Lengths.{report-fits}
+use Rattle.printing.proofs.Settled.{put-printed}
 use Rattle.printing.proofs.put_report.Statement.{statement}
 use Rattle.printing.proofs.put_report.Tie as tie
 
@@ -53,7 +51,8 @@ returns : tie.Need-returns
 returns c =
     let p = c .before .before .before .before in
     let k = p .before in
-    puts-then (first k ++ rows k) (first k) (rows k) refl 0 (k .before .before .args .buffer .now) (room k) _ _ (p .put-head .ensures) _ _ (c .put-rows .ensures)
+    put-printed (first k ++ rows k) (k .before .before .args .buffer .now) _ _ (room k)
+    (puts-then (first k ++ rows k) (first k) (rows k) refl 0 (k .before .before .args .buffer .now) (room k) _ _ (p .put-head .ensures) _ _ (c .put-rows .ensures))
 
 pub put-report-spec : {M : Type 1} → statement M
 put-report-spec = tie.close (tie.spec put-head-requires cast-put-rows cast-put-rows-2 put-rows-requires returns)

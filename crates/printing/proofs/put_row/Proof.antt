@@ -4,7 +4,7 @@ use native.Mathlib.Omega.{arith}
 use mathlib.Core.Path.{_≡_, sym, subst}
 use mathlib.Core.List.{List, [], _∷_, _++_, map}
 use lib.IntN.{pos}
-use lib.ListN.{length, getD, take}
+use lib.ListN.{getD, take}
 use lib.Seq.{length-take-le}
 use mir.Syntax.{w64}
 use mir.Val.{toZ}
@@ -15,9 +15,6 @@ use Rattle.printing.proofs.Reports.{row-line}
 use borrow.Author.Needs.{needs}
 use Rattle.printing.proofs.put_row.Statement.{statement}
 use Rattle.printing.proofs.put_row.Tie as tie
-use Rattle.printing.proofs.put_row.Reads as reads
-use Rattle.printing.proofs.put_row.Lts as lts
-use Rattle.printing.proofs.put_line.Reads as put-line-reads
 
 add-last : tie.Need-add-last
 add-last c = search needs

@@ -1,17 +1,13 @@
 -- `printing::put_rows` meets its contract: after k turns the first k rows are put. Assumes nothing.
-use Prim.Native.Nat.{ℕ, _+_, _-_, _*_, _≤_}
+use Prim.Native.Nat.{_-_, _≤_}
 use native.Mathlib.Omega.{arith}
-use mathlib.Core.Path.{_≡_, ap, _∙_}
-use lib.ListN.{length, take}
+use mathlib.Core.Path.{_≡_}
 use Rattle.printing.specs.Text.{rowsText}
 use Rattle.printing.specs.Putting.{Puts}
 use Rattle.printing.proofs.Placing.{puts-length, puts-none}
-use Rattle.printing.proofs.Reports.{row-lent, row-long, room-row, puts-row}
+use Rattle.printing.proofs.Reports.{row-lent, Begun, row-long, room-row, puts-row}
 use Rattle.printing.proofs.put_rows.Statement.{statement}
 use Rattle.printing.proofs.put_rows.Tie as tie
-use Rattle.printing.proofs.put_rows.Reads as reads
-use Rattle.printing.proofs.put_rows.Lts as lts
-use Rattle.printing.proofs.put_row.Reads as put-row-reads
 
 abbrev Inv-loop : tie.InvT-loop
 Inv-loop buffer₀ at sheet rows alphabet next₀ k₀ buffer next k = (k ≤ rows) × Puts (rowsText alphabet k sheet) at buffer₀ buffer next
@@ -41,15 +37,14 @@ part-put-row-start c = omega arith
 part-put-row-end : tie.Need-part-put-row-end Inv-loop μ-loop
 part-put-row-end c = omega arith
 
+begun : (l : tie.At-loop Inv-loop μ-loop) → let s = l .before .before .before in Begun (s .args .alphabet) (s .args .rows) (s .args .sheet .now) (s .args .at) (s .args .buffer .now) (l .loop .k) (l .loop .buffer) (l .loop .next)
+begun l = record { known = l .before .before .before .pre .0; room = l .before .before .before .pre .1; so-far = l .loop .inv .1 }
+
 put-row-requires : tie.Need-put-row-requires Inv-loop μ-loop
 put-row-requires c κs =
-    let l = c .before .before .before in
-    let s = l .before .before .before in
-    let more = c .before .before .loop-test .taken in
-    rw (row-lent (s .args .sheet .now) (l .loop .k)) (
-      row-long (s .args .alphabet) (s .args .rows) (s .args .sheet .now) (s .pre .0) (l .loop .k) more,
-      room-row (s .args .alphabet) (s .args .rows) (s .args .sheet .now) (s .pre .0) (l .loop .k) more (s .args .at) (s .args .buffer .now) (s .pre .1) (l .loop .buffer) (l .loop .next) (l .loop .inv .1),
-    )
+    let t = c .before .before in
+    let l = t .before in
+    rw (row-lent (l .before .before .before .args .sheet .now) (l .loop .k)) (row-long (begun l) (t .loop-test .taken), room-row (begun l) (t .loop-test .taken))
 
 add-k : tie.Need-add-k Inv-loop μ-loop
 add-k c = omega arith
@@ -60,12 +55,9 @@ loop-less c = omega arith
 loop-again : tie.Need-loop-again Inv-loop μ-loop
 loop-again c =
     let p = c .before .before in
-    let l = p .before .before .before .before in
-    let s = l .before .before .before in
-    let more = p .before .before .before .loop-test .taken in (
-      omega arith,
-      puts-row (s .args .alphabet) (s .args .rows) (s .args .sheet .now) (s .pre .0) (l .loop .k) more (s .args .at) (s .args .buffer .now) (s .pre .1) (l .loop .buffer) (l .loop .next) (l .loop .inv .1) _ _ (rw (row-lent (s .args .sheet .now) (l .loop .k)) at (p .put-row .ensures)),
-    )
+    let t = p .before .before .before in
+    let l = t .before in
+    (omega arith, puts-row (begun l) (t .loop-test .taken) _ _ (rw (row-lent (l .before .before .before .args .sheet .now) (l .loop .k)) at (p .put-row .ensures)))
 
 returns : tie.Need-returns Inv-loop μ-loop
 returns c =
