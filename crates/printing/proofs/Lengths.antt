@@ -73,6 +73,7 @@ unfolding ascii
 refusal-fits n h = omega (arith, line-long 10 (pos n ∷ []) (number-long n h, tt))
 
 module _ (A rows : ℕ) (sheet : List ℕ) (known : Printable A rows sheet) (small : Small sheet) where
+  -- at most eleven numbers of ten digits, each with the byte after it, and one byte over (the bound also covers an empty line)
   row-longest : (k : ℕ) → length (rowText A (rowAt sheet k)) ≤ 122
   row-longest k =
       let row = take (3 + A) (rowAt sheet k) in
@@ -86,6 +87,7 @@ module _ (A rows : ℕ) (sheet : List ℕ) (known : Printable A rows sheet) (sma
   rows-longest (suc k) = omega (arith, rows-longest k, row-longest k, length-append (rowsText A k sheet) (rowText A (rowAt sheet k)))
 
   module _ (D n m : ℕ) (score : ℤ) (d : D < 2 ^ 32) (p : n < 2 ^ 32) (q : m < 2 ^ 32) (f : SFits w64 score) where
+    -- six numbers of twenty bytes, each with the byte after it, and one byte over
     head-longest : length (headText A D n m rows score) ≤ 127
     head-longest =
         let a : A < 2 ^ 32 = omega (arith, known .alphabet) in
