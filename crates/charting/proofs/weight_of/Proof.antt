@@ -3,8 +3,8 @@ use mathlib.Core.Path.{_≡_, refl}
 use Prim.Native.Nat.{ℕ, _-_, _*_, _%_, _^_, _<_}
 use native.Mathlib.Omega.{arith}
 use borrow.Author.Needs.{needs}
+use Rattle.contexts.proofs.Digits.{each-length}
 use Rattle.numbers.specs.Limits.{deepest}
-use Rattle.store.proofs.Digits.{each-length}
 use Rattle.charting.proofs.weight_of.Statement.{statement}
 use Rattle.charting.proofs.weight_of.Tie as tie
 
