@@ -2,7 +2,7 @@
 use Prim.Native.Nat.{ℕ, _<_}
 use mathlib.Core.Path.{_≡_}
 use mathlib.Core.Logic.{_≢_}
-use mathlib.Core.List.{List}
+use mathlib.Core.List.{List, _∷_}
 use lib.ListN.{length, drop, replicate}
 use Rattle.numbers.specs.Limits.{deepest, desks}
 use Rattle.contexts.specs.Sitting.{Sample}
@@ -11,9 +11,17 @@ use Rattle.replay.specs.Room.{Opening}
 use Rattle.store.specs.Layout.{storeSize, room, used, field, sizeAt, slotsAt, recordsIn}
 use Rattle.store.specs.Meaning.{openingAt}
 
+-- "Opening a desk names A, D and a reservation r."
+abbrev pub naming : ℕ → ℕ → ℕ → Opening
+naming A D r = record { symbols = A; depth = D; reserve = r }
+
 -- a desk's numbers: open or not, A, D, the reservation, the two lengths, six recent symbols of each sample
 abbrev pub deskNumbers : ℕ
 deskNumbers = 18
+
+-- those of a desk that opens: "both samples empty"
+abbrev pub freshDesk : Opening → List ℕ
+freshDesk o = 1 ∷ o .symbols ∷ o .depth ∷ o .reserve ∷ replicate 14 0
 
 -- t is s but for desk d and the records: the room, the other desks' numbers, all that lies past the store's size, the length
 pub record Beside (s t : List ℕ) (d : ℕ) : Type 0 where
