@@ -6,3 +6,4 @@ pub mod Granting
 pub mod Beginning
 pub mod Removal
 pub mod Laying
+pub mod Limits

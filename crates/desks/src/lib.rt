@@ -54,10 +54,12 @@ pub fn open(store: &mut [u32], desk: u32, alphabet: u32, depth: u32, reservation
     if reservation == 0 {
         return Verdict::Refused(Refusal::BadReservation);
     }
-    if store[ROOM] < reservation {
+    let room = store[ROOM];
+    if room < reservation {
         return Verdict::Refused(Refusal::BadReservation);
     }
-    if left_in(store) < reservation {
+    let free = left_in(store);
+    if free < reservation {
         return Verdict::Refused(Refusal::NoRoom);
     }
     set_up(store, desk as usize, alphabet, depth, reservation);

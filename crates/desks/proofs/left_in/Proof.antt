@@ -22,13 +22,13 @@ loop-holds c = taken-none (c .before .before .args .store .now) (c .before .befo
 reserved-at-requires : tie.Need-reserved-at-requires Inv-loop μ-loop
 reserved-at-requires c κs =
     let start = c .before .before .before .before in
-    (header-long (start .args .store .now) (start .pre), c .loop-test .taken)
+    (header-long (start .args .store .now) (start .pre), omega arith)
 
 sub-room : tie.Need-sub-room Inv-loop μ-loop
 sub-room c =
     let start = c .before .before .before .before .before in
     let at = c .before .before .loop in
-    rw (c .reserved-at .ensures) (taken-fits (start .args .store .now) (start .pre) (at .desk) (at .room) (at .inv) (c .before .loop-test .taken))
+    rw (c .reserved-at .ensures) (taken-fits (start .args .store .now) (start .pre) (at .desk) (at .room) (at .inv) (omega arith))
 
 add-desk : tie.Need-add-desk Inv-loop μ-loop
 add-desk c = omega arith
@@ -40,13 +40,13 @@ loop-again : tie.Need-loop-again Inv-loop μ-loop
 loop-again c =
     let start = c .before .before .before .before .before in
     let at = c .before .before .loop in
-    rw (c .reserved-at .ensures) (taken-one (start .args .store .now) (start .pre) (at .desk) (at .room) (at .inv) (c .before .loop-test .taken))
+    rw (c .reserved-at .ensures) (taken-one (start .args .store .now) (start .pre) (at .desk) (at .room) (at .inv) (omega arith))
 
 returns : tie.Need-returns Inv-loop μ-loop
 returns c =
     let start = c .before .before .before .before in
     let at = c .before .loop in
-    taken-all (start .args .store .now) (start .pre) (at .desk) (at .room) (at .inv) (c .loop-test .left)
+    taken-all (start .args .store .now) (start .pre) (at .desk) (at .room) (at .inv) (omega arith)
 
 pub left-in-spec : {M : Type 1} → statement M
 left-in-spec =

@@ -42,7 +42,7 @@ ready c =
     }
 
 some : (c : tie.Else5) → 1 ≤ c .before .before .before .before .before .before .before .before .before .before .before .args .reservation
-some c = let n : c .before .before .before .before .before .before .before .before .before .before .before .args .reservation ≡ 0 → ⊥ = c .if5 .left in omega arith
+some c = let n = c .if5 .left in omega arith
 
 -- ---- the needs
 
@@ -102,8 +102,8 @@ returns-5 c =
     let o = naming (x .alphabet) (x .depth) (x .reservation) in
     moves-refused (x .store .now) (atDesk (x .desk) (opening o)) 6 (passed (c .before .before .before .before .before .before .before)) (zero-reserved (meaning (x .store .now)) (x .desk) o (ready (c .before)) (c .if5 .taken))
 
-slice-read-if6 : tie.Need-slice-read-if6
-slice-read-if6 c = omega (arith, header-long (c .before .before .before .before .before .before .before .before .before .before .before .before .args .store .now) (passed (c .before .before .before .before .before .before .before .before)))
+slice-read-room : tie.Need-slice-read-room
+slice-read-room c = omega (arith, header-long (c .before .before .before .before .before .before .before .before .before .before .before .before .args .store .now) (passed (c .before .before .before .before .before .before .before .before)))
 
 same-length-6 : tie.Need-same-length-6
 same-length-6 c = search needs
@@ -171,7 +171,7 @@ open-spec =
     returns-4
     same-length-5
     returns-5
-    slice-read-if6
+    slice-read-room
     same-length-6
     returns-6
     left-in-requires
