@@ -28,7 +28,7 @@ abbrev pub back : List ℕ → List ℕ → List ℕ
 back s ys = take headerSize s ++ (ys ++ drop (length s - headerSize) (drop headerSize s))
 
 -- what the code leaves, with m records and desk d marked closed
-abbrev pub marked : List ℕ → ℕ → ℕ → List ℕ → List ℕ
+abbrev marked : List ℕ → ℕ → ℕ → List ℕ → List ℕ
 marked s d m ys = set (set (back s ys) 1 m) (deskStart d + 0) 0
 
 module _ (s : List ℕ) (d : ℕ) (h : soundb s ≡ true) (l : d < desks) where
@@ -93,9 +93,8 @@ module _ (s : List ℕ) (d : ℕ) (h : soundb s ≡ true) (l : d < desks) where
         ∙ ap (drop (width * m)) (tail-lent headerSize s)
         ∙ drop-drop (width * m) headerSize s)
 
-    -- THEOREM. What the code leaves is the store with desk d closed
-    pub closed-now : Closed s (marked s d m ys) d
-    closed-now = record {
+    marked-closed : Closed s (marked s d m ys) d
+    marked-closed = record {
       beside = record {
         room-same = unwritten 0 (omega arith) (λ q. omega arith) (λ q. omega arith);
         others = λ e f n k i. unwritten (deskStart e + f) (omega arith) (λ q. omega arith) (λ q. n (omega arith));
@@ -105,3 +104,7 @@ module _ (s : List ℕ) (d : ℕ) (h : soundb s ≡ true) (l : d < desks) where
       records-left = records-now;
       marked = getD-set-same (set (back s ys) 1 m) (deskStart d + 0) 0 0 (rw (length-set (back s ys) 1 m, back-long) (omega (arith, header-long s h)));
     }
+
+    -- THEOREM. What the code leaves, where it has written the number of records left and 0 for the desk, is the store with desk d closed
+    pub closed-now : (n v : ℕ) → n ≡ m → v ≡ 0 → Closed s (set (set (back s ys) 1 n) (deskStart d + 0) v) d
+    closed-now n v e f = rw (e, f) marked-closed

@@ -80,7 +80,7 @@ returns : tie.Need-returns
 returns c =
     let start = c .before .before .before .before .before .before in
     let gone = c .before .before .remove-desk in
-    closed-now (start .args .store .now) (start .args .desk) (start .pre .0) (start .pre .1) (gone .last .0) (gone .result) (part-long (c .before .before)) (gone .ensures)
+    closed-now (start .args .store .now) (start .args .desk) (start .pre .0) (start .pre .1) (gone .last .0) (gone .result) (part-long (c .before .before)) (gone .ensures) _ _ (omega arith) (omega arith)
 
 pub shut-spec : {M : Type 1} → statement M
 shut-spec =
