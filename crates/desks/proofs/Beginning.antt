@@ -1,35 +1,34 @@
 -- An opening: that a store whose desk was opened is sound and means what the machine says. Assumes nothing.
-use Prim.Native.Nat.{ℕ, min, _+_, _≤_, _<_}
+use Prim.Native.Nat.{ℕ, min, _≤_, _<_}
 use native.Mathlib.Omega.{arith}
-use mathlib.Core.Path.{_≡_, refl, sym, ap, ap₂, subst, fun-ext, _∙_}
+use mathlib.Core.Path.{_≡_, sym, ap, ap₂, subst, fun-ext, _∙_}
 use mathlib.Core.Logic.{_≢_}
-use mathlib.Core.Bool.{Bool, true, cond, _&&_}
+use mathlib.Core.Bool.{true}
 use mathlib.Core.List.{List, [], _∷_}
 use borrow.Author.Tests.{lt-ltb}
-use lib.Dec.{T, eqb, eqb→eq}
-use lib.ListN.{length, take, getD}
-use Rattle.numbers.specs.Limits.{fewestSymbols, mostSymbols, deepest, desks}
-use Rattle.numbers.proofs.Tests.{T?, left, right, is-true, is-false}
+use lib.Dec.{T}
+use lib.ListN.{take, getD}
+use Rattle.numbers.specs.Limits.{mostSymbols, deepest, desks}
+use Rattle.numbers.proofs.Tests.{T?, is-true, is-false}
 use Rattle.numbers.proofs.Orders.{less, same, more, order, eq→eqb}
 use Rattle.contexts.specs.Context.{isContext}
 use Rattle.contexts.specs.Keys.{keyOf, deskOf}
-use Rattle.contexts.specs.Sitting.{Sample, Progress}
+use Rattle.contexts.specs.Sitting.{Sample}
 use Rattle.contexts.proofs.KeyOrder.{deskOf-key}
 use Rattle.contexts.proofs.Strings.{context-more}
-use Rattle.records.specs.Records.{key, keys, rises, lookup, blank}
-use Rattle.replay.specs.Room.{Opening, closed, opened, reserved}
-use Rattle.replay.specs.Table.{refused, answered}
-use Rattle.replay.specs.Machine.{opening, atDesk, verdict, moved, shift}
-use Rattle.store.specs.Layout.{room, isOpen, symbolsAt, depthAt, reserveAt, sizeAt, slotsAt, recordsIn, countIn, keep, ofDesk}
-use Rattle.store.specs.Sound.{all, below, deskOk, heldBy, reservedAt, recordOk, soundb}
+use Rattle.records.specs.Records.{keys, rises, lookup, blank}
+use Rattle.replay.specs.Room.{Opening, opened, reserved}
+use Rattle.replay.specs.Table.{answered}
+use Rattle.replay.specs.Machine.{opening, atDesk, moved, shift}
+use Rattle.store.specs.Layout.{symbolsAt, depthAt, reserveAt, sizeAt, slotsAt, recordsIn, keep, ofDesk}
+use Rattle.store.specs.Sound.{all, below, deskOk, heldBy, recordOk, soundb}
 use Rattle.store.specs.Plain.{Open}
-use Rattle.store.specs.Meaning.{openingAt, progressAt, deskAt, meaning}
+use Rattle.store.specs.Meaning.{progressAt, meaning}
 use Rattle.store.proofs.Many.{every-at, every-of, all-at, all-of}
 use Rattle.store.proofs.Rising.{blank-count}
 use Rattle.store.proofs.Desks.{stands-desk}
-use Rattle.store.proofs.Keeping.{keep-all, keep-lookup}
-use Rattle.store.proofs.Climbing.{key-stands}
-use Rattle.store.proofs.Passing.{passed, passes, record-key}
+use Rattle.store.proofs.Keeping.{keep-lookup}
+use Rattle.store.proofs.Passing.{passed, passes}
 use Rattle.store.proofs.Fitting.{desk-opened, desk-closed}
 use Rattle.rules.specs.Feed.{fresh}
 use Rattle.rules.specs.Rules.{done, rules}
@@ -37,38 +36,9 @@ use Rattle.calls.specs.Promises.{Moves}
 use Rattle.calls.proofs.Settled.{moves-done}
 use Rattle.desks.specs.Changes.{Opened}
 use Rattle.desks.proofs.Reserving.{left-is}
-use Rattle.desks.proofs.Granting.{Granted, limited, already-open, granted}
+use Rattle.desks.proofs.Granting.{Granted, limited, granted}
+use Rattle.desks.proofs.Vacant.{not-there, none-there}
 use Rattle.desks.proofs.Others.{Apart, with, meaning-with, reserves-with, other-desk, other-record}
-
--- ---- what a store's numbers tell of its room
-
-pub room-made : (s : List ℕ) → meaning s .made ≡ room s
-unfolding meaning
-room-made s = refl
-
-pub shut-there : (s : List ℕ) (d : ℕ) → (Open s d → ⊥) → meaning s .at d ≡ closed
-unfolding meaning
-shut-there s d n = desk-closed s d n
-
-pub open-there : (s : List ℕ) (d : ℕ) (o : Opening) → Open s d → verdict rules (meaning s) (atDesk d (opening o)) ≡ refused 3
-unfolding meaning
-open-there s d o p = already-open (meaning s) d o (p .desk) (openingAt s d) (progressAt s d) (desk-opened s d p)
-
--- no record is of a desk that is not open
-module _ (s : List ℕ) (d : ℕ) (h : soundb s ≡ true) (n : Open s d → ⊥) where
-  pub not-there : (r : List ℕ) → T (recordOk s (recordsIn s) r) → deskOf (key r) ≢ d
-  not-there r test q =
-      let g = key-stands s (key r) (record-key s (recordsIn s) r test) in
-      n (record { desk = subst (λ (e : ℕ). e < desks) q (g .desk); opened = subst (λ (e : ℕ). T (isOpen s e)) q (g .opened) })
-
-  pub none-there : keep (ofDesk d) (recordsIn s) ≡ []
-  none-there = go (keep (ofDesk d) (recordsIn s)) (keep-all (ofDesk d) (recordOk s (recordsIn s)) (recordsIn s) (passed s h .each))
-    where
-      go : (rs : List (List ℕ)) → T (all (λ r. recordOk s (recordsIn s) r && ofDesk d (key r)) rs) → rs ≡ []
-      go [] t = refl
-      go (r ∷ rs) t =
-          let one = all-at (λ r. recordOk s (recordsIn s) r && ofDesk d (key r)) (r ∷ rs) 0 [] t (omega arith) in
-          absurd (not-there r (left (recordOk s (recordsIn s) r) _ one) (eqb→eq (deskOf (key r)) d (right (recordOk s (recordsIn s) r) _ one)))
 
 zeros-below : (A : ℕ) → 1 ≤ A → T (all (below A) (0 ∷ 0 ∷ 0 ∷ 0 ∷ 0 ∷ 0 ∷ []))
 unfolding all

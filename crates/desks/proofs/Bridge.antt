@@ -1,9 +1,8 @@
 -- The records that a test keeps, as `store` has them and as `records` has them. Assumes nothing.
 use Prim.Native.Nat.{ℕ}
-use mathlib.Core.Path.{_≡_, refl, ap, _∙_}
-use mathlib.Core.Bool.{Bool, true, false, cond}
+use mathlib.Core.Path.{_≡_, refl}
+use mathlib.Core.Bool.{Bool}
 use mathlib.Core.List.{List, [], _∷_}
-use Rattle.records.specs.Records.{key}
 use Rattle.records.specs.Held as here
 use Rattle.store.specs.Layout as there
 

@@ -1,10 +1,10 @@
 -- The numbers of a store whose desk was opened, as the code writes them: the desk's own part comes back as those of a fresh desk. Assumes nothing.
-use Prim.Native.Nat.{ℕ, _+_, _-_, _*_, _≤_, _<_}
+use Prim.Native.Nat.{ℕ, _+_, _-_, _≤_, _<_}
 use native.Mathlib.Omega.{arith}
 use native.Mathlib.Nat.{le-of-eq}
-use mathlib.Core.Path.{_≡_, refl, sym, ap, ap₂, _∙_}
+use mathlib.Core.Path.{_≡_, sym, ap, ap₂, _∙_}
 use mathlib.Core.Logic.{_≢_}
-use mathlib.Core.List.{List, [], _∷_, _++_}
+use mathlib.Core.List.{List, [], _++_}
 use lib.ListN.{length, take, drop, getD, set, replicate, length-append, length-drop, drop-of-length-le, List·getD-append}
 use lib.Seq.{length-take-le, drop-at, drop-drop, getD-take, getD-drop}
 use Rattle.numbers.specs.Limits.{deepest, desks}
@@ -15,7 +15,7 @@ use Rattle.records.proofs.Lent.{past-lent, agree-later}
 use Rattle.replay.specs.Room.{Opening}
 use Rattle.store.specs.Layout.{headerSize, storeSize, deskStart, room, field, sizeAt, slotsAt, recordsIn}
 use Rattle.store.specs.Meaning.{openingAt}
-use Rattle.desks.specs.Changes.{naming, deskNumbers, freshDesk, Beside, Opened}
+use Rattle.desks.specs.Changes.{naming, deskNumbers, freshDesk, Opened}
 
 -- ---- the part: zeros, then the first four numbers
 

@@ -3,6 +3,7 @@ pub mod Bridge
 pub mod Others
 pub mod Shutting
 pub mod Granting
+pub mod Vacant
 pub mod Beginning
 pub mod Removal
 pub mod Laying

@@ -1,9 +1,8 @@
 -- Document 01's limits of an opening, both sides of each: "D 6 opens, 7 gets 5; .. r equal to a room left above 0 opens, one more gets 7 (6 where the
 -- room left is K)". In any room, at any of its desks that is closed. Assumes nothing.
-use Prim.Native.Nat.{ℕ, suc, _+_, _≤_, _<_}
+use Prim.Native.Nat.{ℕ, suc, _≤_, _<_}
 use native.Mathlib.Omega.{arith}
-use mathlib.Core.Path.{_≡_, refl}
-use mathlib.Core.Bool.{true}
+use mathlib.Core.Path.{_≡_}
 use borrow.Author.Tests.{le-ltb}
 use Rattle.numbers.specs.Limits.{fewestSymbols, mostSymbols, deepest, desks}
 use Rattle.contexts.specs.Sitting.{Progress}

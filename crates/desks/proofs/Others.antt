@@ -4,27 +4,26 @@ use Prim.Native.Nat.{ℕ, _+_, _-_, _≤_, _<_}
 use native.Mathlib.Omega.{arith}
 use mathlib.Core.Path.{_≡_, refl, sym, ap, ap₂, subst, fun-ext, _∙_}
 use mathlib.Core.Logic.{_≢_}
-use mathlib.Core.Bool.{Bool, true, false, cond, _&&_, _||_}
+use mathlib.Core.Bool.{Bool, true, false, cond, _&&_}
 use mathlib.Core.List.{List}
 use borrow.Author.Tests.{eqb-true, eqb-false, le-ltb}
 use lib.Dec.{T, eqb, ltb}
-use lib.ListN.{length, take, drop, getD}
+use lib.ListN.{length, drop, getD}
 use lib.Seq.{ext-getD, getD-take, getD-drop}
-use Rattle.numbers.specs.Limits.{mostSymbols, deepest, desks, longest}
+use Rattle.numbers.specs.Limits.{mostSymbols, deepest, desks}
 use Rattle.numbers.specs.Sum.{sum}
 use Rattle.numbers.proofs.Tests.{T?, of-true}
 use Rattle.numbers.proofs.Orders.{Leb, le, gt, lebView, eq→eqb}
-use Rattle.contexts.specs.Context.{isContext}
-use Rattle.contexts.specs.Keys.{keyOf, deskOf, contextOf}
+use Rattle.contexts.specs.Keys.{deskOf, contextOf}
 use Rattle.contexts.specs.Sitting.{Sample, first, second, Progress}
 use Rattle.contexts.proofs.KeyOrder.{deskOf-key}
-use Rattle.records.specs.Records.{key, lookup, countsOf}
+use Rattle.records.specs.Records.{key, lookup}
 use Rattle.records.proofs.Followed.{context-take}
 use Rattle.replay.specs.Room.{Desk, Room, reserved, reservations}
 use Rattle.replay.specs.Machine.{put}
 use Rattle.replay.proofs.Desks.{put-sum}
-use Rattle.store.specs.Layout.{headerSize, deskStart, recentField, room, field, isOpen, symbolsAt, sizeAt, slotsAt, recordsIn, totalOf, keep, ofDesk}
-use Rattle.store.specs.Sound.{all, below, deskOk, heldBy, reservedAt, keyOk, sampleOk, tableOk, parentKey, parentOk, recordOk, soundb}
+use Rattle.store.specs.Layout.{headerSize, deskStart, recentField, room, field, isOpen, sizeAt, slotsAt, recordsIn, totalOf, keep, ofDesk}
+use Rattle.store.specs.Sound.{deskOk, heldBy, reservedAt, keyOk, sampleOk, tableOk, parentKey, parentOk, recordOk, soundb}
 use Rattle.store.specs.Meaning.{deskAt, meaning}
 use Rattle.store.proofs.Many.{sample-cong}
 use Rattle.store.proofs.Digits.{contextOf-within}

@@ -2,7 +2,7 @@
 -- number and the desk's mark are written. Assumes nothing.
 use Prim.Native.Nat.{ℕ, _+_, _-_, _*_, _≤_, _<_}
 use native.Mathlib.Omega.{arith}
-use mathlib.Core.Path.{_≡_, refl, sym, ap, ap₂, subst, _∙_}
+use mathlib.Core.Path.{_≡_, sym, ap, ap₂, _∙_}
 use mathlib.Core.Logic.{_≢_}
 use mathlib.Core.Bool.{true}
 use mathlib.Core.List.{List, _++_}
@@ -14,10 +14,10 @@ use Rattle.records.specs.Held.{without, Removable}
 use Rattle.records.specs.Bumped.{Written}
 use Rattle.records.proofs.Lent.{tail-lent, tail-back, agree-later}
 use Rattle.records.proofs.Settling.{removed-count}
-use Rattle.store.specs.Layout.{headerSize, storeSize, deskStart, room, used, field, recordsIn}
+use Rattle.store.specs.Layout.{headerSize, storeSize, deskStart, room, used, recordsIn}
 use Rattle.store.specs.Sound.{soundb}
 use Rattle.store.proofs.Passing.{passed}
-use Rattle.desks.specs.Changes.{deskNumbers, Beside, Closed}
+use Rattle.desks.specs.Changes.{Closed}
 use Rattle.desks.proofs.Reserving.{header-long}
 
 -- the part that is lent, and all that is there when it has come back as ys

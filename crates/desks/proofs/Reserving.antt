@@ -1,7 +1,7 @@
 -- The room that a store's numbers leave, and what the room question answers. Assumes nothing.
-use Prim.Native.Nat.{ℕ, zero, suc, _+_, _-_, _≤_, _<_}
+use Prim.Native.Nat.{ℕ, _+_, _-_, _≤_, _<_}
 use native.Mathlib.Omega.{arith}
-use mathlib.Core.Path.{_≡_, refl, sym, ap, _∙_}
+use mathlib.Core.Path.{_≡_, refl, ap}
 use mathlib.Core.Bool.{Bool, true, false, cond}
 use mathlib.Core.List.{List}
 use lib.ListN.{length}
@@ -15,7 +15,7 @@ use Rattle.replay.specs.Machine.{roomQuestion, verdict, tableOf, answerOf}
 use Rattle.store.specs.Layout.{headerSize, room, isOpen}
 use Rattle.store.specs.Sound.{reservedAt, soundb}
 use Rattle.store.specs.Meaning.{openingAt, progressAt, deskAt, meaning}
-use Rattle.store.proofs.Passing.{Passed, passed}
+use Rattle.store.proofs.Passing.{passed}
 use Rattle.rules.specs.Rules.{rules}
 use Rattle.rules.specs.Rules as answer
 

@@ -1,7 +1,7 @@
 -- A closing: what its table says, and that a store whose desk was closed is sound and means what the machine says. Assumes nothing.
 use Prim.Native.Nat.{ℕ, _≤_, _<_}
 use native.Mathlib.Omega.{arith}
-use mathlib.Core.Path.{_≡_, refl, sym, ap, subst, _∙_}
+use mathlib.Core.Path.{_≡_, sym, ap, subst, _∙_}
 use mathlib.Core.Logic.{_≢_}
 use mathlib.Core.Bool.{Bool, true, not, _&&_}
 use mathlib.Core.List.{List, []}
@@ -21,7 +21,7 @@ use Rattle.replay.specs.Machine.{closing, atDesk, closingTable, tableAt, tableO
 use Rattle.store.specs.Layout.{used, isOpen, recordsIn, keep, ofDesk}
 use Rattle.store.specs.Sound.{all, deskOk, heldBy, recordOk, soundb}
 use Rattle.store.specs.Plain.{Open}
-use Rattle.store.specs.Meaning.{deskAt, meaning}
+use Rattle.store.specs.Meaning.{meaning}
 use Rattle.store.proofs.Many.{every-at, every-of, all-at, all-of}
 use Rattle.store.proofs.Parts.{records-length}
 use Rattle.store.proofs.Desks.{desk-shut}

@@ -4,7 +4,7 @@ use mathlib.Core.List.{_++_}
 use Prim.Native.Nat.{_-_, _≤_}
 use native.Mathlib.Omega.{arith}
 use lib.ListN.{length, drop, replicate, length-set}
-use borrow.Author.Fill.{fill-none, fill-more}
+use borrow.Author.Fill.{fill-more}
 use Rattle.desks.specs.Changes.{deskNumbers}
 use Rattle.desks.proofs.Laying.{laid-out}
 use Rattle.desks.proofs.lay_out.Statement.{statement}

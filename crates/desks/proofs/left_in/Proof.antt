@@ -1,5 +1,4 @@
 -- `desks::left_in` meets its contract: `room` is K less what the desks so far have reserved. Assumes nothing.
-use mathlib.Core.Path.{_≡_}
 use Prim.Native.Nat.{_-_}
 use native.Mathlib.Omega.{arith}
 use Rattle.numbers.specs.Limits.{desks}

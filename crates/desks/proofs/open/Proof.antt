@@ -16,7 +16,8 @@ use Rattle.calls.proofs.Settled.{moves-unsound, moves-refused}
 use Rattle.desks.specs.Changes.{naming}
 use Rattle.desks.proofs.Reserving.{header-long}
 use Rattle.desks.proofs.Granting.{Ready, no-desk, outside, zero-reserved, above-room, above-left}
-use Rattle.desks.proofs.Beginning.{shut-there, room-made, open-there, opened-moves}
+use Rattle.desks.proofs.Vacant.{shut-there, room-made, open-there}
+use Rattle.desks.proofs.Beginning.{opened-moves}
 use Rattle.desks.proofs.open.Statement.{statement}
 use Rattle.desks.proofs.open.Tie as tie
 

@@ -1,5 +1,4 @@
 -- `desks::outside_limits` meets its contract. Assumes nothing.
-use native.Mathlib.Omega.{arith}
 use borrow.Author.Tests.{le-ltb, lt-ltb}
 use Rattle.numbers.specs.Limits.{fewestSymbols, mostSymbols}
 use Rattle.replay.specs.Machine.{outsideLimits}
