@@ -1,0 +1,10 @@
+pub mod Reserving
+pub mod Bridge
+pub mod Others
+pub mod Shutting
+pub mod Granting
+pub mod Vacant
+pub mod Beginning
+pub mod Removal
+pub mod Laying
+pub mod Limits

@@ -1,0 +1,166 @@
+-- What stands beside a desk: where the other desks of two stores have the same numbers and the same records, they pass the same tests and mean
+-- the same. Assumes nothing.
+use Prim.Native.Nat.{ℕ, _+_, _-_, _≤_, _<_}
+use native.Mathlib.Omega.{arith}
+use mathlib.Core.Path.{_≡_, refl, sym, ap, ap₂, subst, fun-ext, _∙_}
+use mathlib.Core.Logic.{_≢_}
+use mathlib.Core.Bool.{Bool, true, false, cond, _&&_}
+use mathlib.Core.List.{List}
+use borrow.Author.Tests.{eqb-true, eqb-false, le-ltb}
+use lib.Dec.{T, eqb, ltb}
+use lib.ListN.{length, drop, getD}
+use lib.Seq.{ext-getD, getD-take, getD-drop}
+use Rattle.numbers.specs.Limits.{mostSymbols, deepest, desks}
+use Rattle.numbers.specs.Sum.{sum}
+use Rattle.numbers.proofs.Tests.{T?, of-true}
+use Rattle.numbers.proofs.Orders.{Leb, le, gt, lebView, eq→eqb}
+use Rattle.contexts.specs.Keys.{deskOf, contextOf}
+use Rattle.contexts.specs.Sitting.{Sample, first, second, Progress}
+use Rattle.contexts.proofs.KeyOrder.{deskOf-key}
+use Rattle.records.specs.Records.{key, lookup}
+use Rattle.records.proofs.Followed.{context-take}
+use Rattle.replay.specs.Room.{Desk, Room, reserved, reservations}
+use Rattle.replay.specs.Machine.{put}
+use Rattle.replay.proofs.Desks.{put-sum}
+use Rattle.store.specs.Layout.{headerSize, deskStart, recentField, room, field, isOpen, sizeAt, slotsAt, recordsIn, totalOf, keep, ofDesk}
+use Rattle.store.specs.Sound.{deskOk, heldBy, reservedAt, keyOk, sampleOk, tableOk, parentKey, parentOk, recordOk, soundb}
+use Rattle.store.specs.Meaning.{deskAt, meaning}
+use Rattle.store.proofs.Many.{sample-cong}
+use Rattle.store.proofs.Digits.{contextOf-within}
+use Rattle.store.proofs.Desks.{desk-stands, stands-desk, desk-shut}
+use Rattle.store.proofs.Keeping.{keep-lookup}
+use Rattle.store.proofs.Climbing.{key-stands}
+use Rattle.store.proofs.Passing.{record-key}
+use Rattle.store.proofs.Standing.{slots-long}
+use Rattle.store.proofs.Local.{SameDesk, desk-stays}
+use Rattle.desks.specs.Changes.{deskNumbers, Beside}
+use Rattle.desks.proofs.Reserving.{header-long, desk-reserved, reservations-are}
+
+-- a sound store s and one that has all but desk d's numbers and records
+pub record Apart (s t : List ℕ) (d : ℕ) : Type 0 where
+  pub sound : soundb s ≡ true
+  pub beside : Beside s t d
+  pub kept : (e : ℕ) → e ≢ d → keep (ofDesk e) (recordsIn t) ≡ keep (ofDesk e) (recordsIn s)
+
+-- a context's parent is of the same desk
+parent-desk : (k : ℕ) → deskOf (parentKey k) ≡ deskOf k
+parent-desk k = deskOf-key (deskOf k) _ (context-take mostSymbols deepest (length (contextOf k) - 1) (contextOf k) (contextOf-within k))
+
+module _ (s t : List ℕ) (d : ℕ) (x : Apart s t d) where
+  header-after : headerSize ≤ length t
+  header-after = omega (arith, header-long s (x .sound), x .beside .long)
+
+  -- ---- another desk's meaning
+
+  same-desk : (e : ℕ) → e ≢ d → e < desks → SameDesk s t e
+  same-desk e n l = record {
+    long-before = header-long s (x .sound);
+    long-after = header-after;
+    fields = λ f m. sym (x .beside .others e f n l m);
+    kept = sym (x .kept e n);
+  }
+
+  other-meaning : (e : ℕ) → e ≢ d → deskAt t e ≡ deskAt s e
+  other-meaning e n = go (lebView desks e)
+    where
+      go : {b : Bool} → Leb desks e b → deskAt t e ≡ deskAt s e
+      go (le h) = rw (le-ltb e desks h)
+      go (gt l) = sym (desk-stays s t e (x .sound) (same-desk e n l))
+
+  -- the room with desk d as it is now
+  abbrev pub with : Desk Progress → Room Progress
+  with v = record { made = room s; at = put (deskAt s) d v }
+
+  pub meaning-with : (v : Desk Progress) → deskAt t d ≡ v → meaning t ≡ with v
+  unfolding meaning put
+  meaning-with v q =
+      let rooms = x .beside .room-same in
+      let desks : deskAt t ≡ put (deskAt s) d v = fun-ext (λ e. go e (eqb e d) refl) in
+      λ j. record { made = rooms j; at = desks j }
+    where
+      go : (e : ℕ) (b : Bool) → eqb e d ≡ b → deskAt t e ≡ cond b v (deskAt s e)
+      go e true p = ap (deskAt t) (eqb-true e d p) ∙ q
+      go e false p = other-meaning e (eqb-false e d p)
+
+  -- the reservations are again within the room, where the new one is
+  pub reserves-with : (v : Desk Progress) → meaning t ≡ with v → d < desks → sum desks (reservedAt s) + reserved v ≤ room s + reservedAt s d → sum desks (reservedAt t) ≤ room t
+  unfolding meaning
+  reserves-with v q l h =
+      let after : reservations (meaning t) ≡ reservations (with v) = ap reservations q in
+      let sums = put-sum reserved desks (deskAt s) d v l in
+      omega (arith, x .beside .room-same, reservations-are s, reservations-are t, desk-reserved s d l)
+
+  -- ---- another desk's test
+
+  slots-same : (e : ℕ) → e ≢ d → e < desks → (i : Sample) → slotsAt t e i ≡ slotsAt s e i
+  slots-same e n l i =
+      let long = slots-long t e i l header-after in
+      ext-getD 0 (slotsAt t e i) (slotsAt s e i) (long ∙ sym (slots-long s e i l (header-long s (x .sound))))
+      (λ j h. at t i j (omega arith) ∙ same i j (omega arith) ∙ sym (at s i j (omega arith)))
+    where
+      at : (u : List ℕ) (i : Sample) (j : ℕ) → j < deepest → getD (slotsAt u e i) j 0 ≡ getD u (deskStart e + recentField i + j) 0
+      at u i j h = getD-take deepest (drop (deskStart e + recentField i) u) j 0 h ∙ getD-drop (deskStart e + recentField i) u j 0
+
+      same : (i : Sample) (j : ℕ) → j < deepest → getD t (deskStart e + recentField i + j) 0 ≡ getD s (deskStart e + recentField i + j) 0
+      same first j h =
+          let q : deskStart e + 6 + j ≡ deskStart e + (6 + j) = omega arith in
+          rw q (x .beside .others e (6 + j) n l (omega arith))
+      same second j h =
+          let q : deskStart e + 12 + j ≡ deskStart e + (12 + j) = omega arith in
+          rw q (x .beside .others e (12 + j) n l (omega arith))
+
+  pub other-desk : (e : ℕ) → e ≢ d → e < desks → T (deskOk s (recordsIn s) e) → T (deskOk t (recordsIn t) e)
+  other-desk e n l test = elim (T? (isOpen t e)) [
+    | yes o ↦
+        let g = desk-stands s e (heldBy e (recordsIn s)) (subst (λ (m : ℕ). T (eqb m 1)) (same 0 (omega arith)) o) test in
+        stands-desk t e (heldBy e (recordsIn t)) o (record {
+          fewest = omega (arith, g .fewest, same 1 (omega arith));
+          most = omega (arith, g .most, same 1 (omega arith));
+          depth = omega (arith, g .depth, same 2 (omega arith));
+          some = omega (arith, g .some, same 3 (omega arith));
+          sizes = λ i. rw (size-same i) (g .sizes i);
+          within = omega (arith, g .within, same 3 (omega arith), ap length (x .kept e n));
+          slots = λ i. rw (same 1 (omega arith), slots-same e n l i) (g .slots i);
+        })
+    | no q ↦ of-true _ (desk-shut t e (heldBy e (recordsIn t)) q)
+  ]
+    where
+      same : (f : ℕ) → f < deskNumbers → getD t (deskStart e + f) 0 ≡ getD s (deskStart e + f) 0
+      same f m = x .beside .others e f n l m
+
+      size-same : (i : Sample) → sizeAt t e i ≡ sizeAt s e i
+      size-same first = same 4 (omega arith)
+      size-same second = same 5 (omega arith)
+
+  -- ---- another desk's record
+
+  lookup-same : (k : ℕ) → deskOf k ≢ d → lookup k (recordsIn t) ≡ lookup k (recordsIn s)
+  lookup-same k n =
+      let own : T (ofDesk (deskOf k) k) = eq→eqb (deskOf k) (deskOf k) refl in
+      sym (keep-lookup (ofDesk (deskOf k)) k (recordsIn t) own) ∙ ap (lookup k) (x .kept (deskOf k) n) ∙ keep-lookup (ofDesk (deskOf k)) k (recordsIn s) own
+
+  module _ (r : List ℕ) (n : deskOf (key r) ≢ d) (l : deskOf (key r) < desks) where
+    same : (f : ℕ) → f < deskNumbers → field t (deskOf (key r)) f ≡ field s (deskOf (key r)) f
+    same f m = x .beside .others (deskOf (key r)) f n l m
+
+    key-same : keyOk t (key r) ≡ keyOk s (key r)
+    unfolding keyOk
+    key-same = rw (same 0 (omega arith), same 1 (omega arith), same 2 (omega arith))
+
+    sample-same : (i : Sample) → sampleOk t r i ≡ sampleOk s r i
+    sample-same first = rw (same 1 (omega arith), same 4 (omega arith))
+    sample-same second = rw (same 1 (omega arith), same 5 (omega arith))
+
+    table-same : tableOk t r ≡ tableOk s r
+    unfolding tableOk
+    table-same = ap (λ (b : Bool). b && ltb 0 (totalOf first r + totalOf second r)) (sample-cong sample-same)
+
+    parent-same : (i : Sample) → parentOk (recordsIn t) r i ≡ parentOk (recordsIn s) r i
+    unfolding parentOk
+    parent-same i = rw (lookup-same (parentKey (key r)) (λ q. n (sym (parent-desk (key r)) ∙ q)))
+
+  pub other-record : (r : List ℕ) → deskOf (key r) ≢ d → T (recordOk s (recordsIn s) r) → T (recordOk t (recordsIn t) r)
+  unfolding recordOk
+  other-record r n test =
+      let l = key-stands s (key r) (record-key s (recordsIn s) r test) .desk in
+      subst T (sym (ap₂ _&&_ (key-same r n l) (ap₂ _&&_ (table-same r n l) (sample-cong (parent-same r n l))))) test
