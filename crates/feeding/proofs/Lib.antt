@@ -1,0 +1,11 @@
+pub mod Bridge
+pub mod Recent
+pub mod Before
+pub mod Counted
+pub mod Owning
+pub mod Reserving
+pub mod Header
+pub mod Tallied
+pub mod Sounding
+pub mod Moving
+pub mod Judging
