@@ -19,7 +19,7 @@ use Rattle.store.specs.Layout.{deskStart, field, isOpen, symbolsAt, depthAt, re
 use Rattle.store.specs.Sound.{reservedAt}
 use Rattle.store.specs.Plain.{Open, ContextAt}
 use Rattle.store.proofs.Standing.{sound-stands}
-use Rattle.feeding.specs.FedStore.{FedStore, Feedable, shifted}
+use Rattle.feeding.specs.FedStore.{FedStore, Acceptable, shifted}
 use Rattle.feeding.proofs.Counted.{same-sym}
 
 -- two desks are one, or not
@@ -77,7 +77,7 @@ module _ (s t : List ℕ) (d : ℕ) (i : Sample) (a : ℕ) (f : FedStore s t d i
   pub reservations-same : sum desks (reservedAt t) ≡ sum desks (reservedAt s)
   reservations-same = sum-cong desks reserved-same
 
-  module _ (p : Feedable s d i a) where
+  module _ (p : Acceptable s d i a) where
     -- "0 to 512 symbols"
     pub size-within : (e : ℕ) → Open s e → (j : Sample) → sizeAt t e j ≤ longest
     size-within e o j = elim (same? e d) [

@@ -5,7 +5,12 @@ pub mod Counted
 pub mod Owning
 pub mod Reserving
 pub mod Header
+pub mod Filling
 pub mod Tallied
 pub mod Sounding
 pub mod Moving
 pub mod Judging
+pub mod Sets
+pub mod Noting
+pub mod Placing
+pub mod Asking

@@ -29,14 +29,14 @@ use Rattle.store.proofs.Fitting.{desk-opened, desk-closed}
 use Rattle.store.proofs.Local.{SameDesk, desk-stays}
 use Rattle.rules.specs.Feed as rule
 use Rattle.rules.specs.Rules.{feed, nextOf, rules}
-use Rattle.feeding.specs.FedStore.{FedStore, Feedable, recentAt, shifted}
+use Rattle.feeding.specs.FedStore.{FedStore, Acceptable, recentAt, shifted}
 use Rattle.feeding.proofs.Bridge.{keep-same}
 use Rattle.feeding.proofs.Recent.{recent-context, recent-within, within, recent-shifted}
 use Rattle.feeding.proofs.Counted.{same-sym}
 use Rattle.feeding.proofs.Header.{same?, open-before, open-after, context-same}
 use Rattle.feeding.proofs.Tallied.{count-after}
 
-module _ (s t : List ℕ) (d : ℕ) (i : Sample) (a : ℕ) (f : FedStore s t d i a) (p : Feedable s d i a) where
+module _ (s t : List ℕ) (d : ℕ) (i : Sample) (a : ℕ) (f : FedStore s t d i a) (p : Acceptable s d i a) where
   -- ---- the desk that was fed
 
   opening-same : openingAt t d ≡ openingAt s d

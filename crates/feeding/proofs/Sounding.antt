@@ -26,11 +26,11 @@ use Rattle.store.proofs.Parts.{records-length}
 use Rattle.store.proofs.Rising.{rises-apart}
 use Rattle.store.proofs.Standing.{sound-stands}
 use Rattle.store.proofs.Converse.{stands-sound}
-use Rattle.feeding.specs.FedStore.{FedStore, Feedable, recentAt}
+use Rattle.feeding.specs.FedStore.{FedStore, Acceptable, recentAt}
 use Rattle.feeding.proofs.Recent.{within}
 use Rattle.feeding.proofs.Owning.{Owned}
 use Rattle.feeding.proofs.Header.{same?, limit-same, size-after, open-before, open-after, context-same, reservations-same, size-within, slots-below}
-use Rattle.feeding.proofs.Tallied.{rising-after, count-after, total-after, owned-after, seen-after, held-within, few-after}
+use Rattle.feeding.proofs.Tallied.{rising-after, count-after, total-after, owned-after, seen-after, held-after, few-after}
 
 begins-trans : (u c r : List ℕ) → T (begins u c) → T (begins c r) → T (begins u r)
 begins-trans [] c r h g = tt
@@ -55,7 +55,7 @@ either m n true true false g h k l = omega (arith, h (omega arith))
 either m n true false b g h k l = omega (arith, h (omega arith))
 either m n false q b g h k l = omega (arith, h (omega arith))
 
-module _ (s t : List ℕ) (d : ℕ) (i : Sample) (a : ℕ) (f : FedStore s t d i a) (p : Feedable s d i a) where
+module _ (s t : List ℕ) (d : ℕ) (i : Sample) (a : ℕ) (f : FedStore s t d i a) (p : Acceptable s d i a) where
   stands : Sound s
   stands = sound-stands s (p .sound)
 
@@ -154,7 +154,7 @@ module _ (s t : List ℕ) (d : ℕ) (i : Sample) (a : ℕ) (f : FedStore s t d i
         lengths = λ e o. size-within s t d i a f p e (before e o);
         symbols = λ e o. slots-below s t d i a f p e (before e o);
         reservations = omega (arith, reservations-same s t d i a f, f .room-same, stands .reservations);
-        reserved-held = λ e o. rw (limit e 3 (o .desk) (omega arith)) (held-within s t d i a f p e (before e o));
+        reserved-held = λ e o. rw (limit e 3 (o .desk) (omega arith)) (held-after s t d i a f p e (before e o));
         held-once = once-after;
         counts-below = below-after;
         totals = totals-after;

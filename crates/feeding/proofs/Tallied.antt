@@ -32,15 +32,15 @@ use Rattle.store.proofs.Parts.{records-length}
 use Rattle.store.proofs.Passing.{passed, desk-passed}
 use Rattle.store.proofs.Fitting.{open?}
 use Rattle.store.proofs.Standing.{sound-stands}
-use Rattle.feeding.specs.FedStore.{FedStore, Feedable, recentAt}
+use Rattle.feeding.specs.FedStore.{FedStore, Acceptable, recentAt}
 use Rattle.feeding.proofs.Bridge.{keep-same}
 use Rattle.feeding.proofs.Recent.{recent-within, within}
 use Rattle.feeding.proofs.Before.{rising, wide, held-seen}
 use Rattle.feeding.proofs.Counted.{total-fed}
 use Rattle.feeding.proofs.Owning.{Owned, owned-fed, owned-desk}
-use Rattle.feeding.proofs.Header.{same?, limit-same, reservations-same}
+use Rattle.feeding.proofs.Filling.{held-within, room-enough}
 
-module _ (s t : List ℕ) (d : ℕ) (i : Sample) (a : ℕ) (f : FedStore s t d i a) (p : Feedable s d i a) where
+module _ (s t : List ℕ) (d : ℕ) (i : Sample) (a : ℕ) (f : FedStore s t d i a) (p : Acceptable s d i a) where
   abbrev fedRecords : List (List ℕ)
   fedRecords = fed d i a (recentAt s d i) (recordsIn s)
 
@@ -92,39 +92,8 @@ module _ (s t : List ℕ) (d : ℕ) (i : Sample) (a : ℕ) (f : FedStore s t d i
 
   -- ---- how many
 
-  pub held-within : (e : ℕ) → Open s e → heldBy e (recordsIn t) ≤ reserveAt s e
-  held-within e o =
-      rw (keep-same (ofDesk e) (recordsIn t), f .records-fed)
-      (elim (same? e d) [
-        | yes q ↦
-            let g = desk-length-fed d i a (recentAt s d i) cr (recordsIn s) (rising s (p .sound)) in
-            rw (q, g, ← keep-same (ofDesk d) (recordsIn s)) (p .reserved)
-        | no q ↦
-            rw (other-fed d i a (recentAt s d i) cr e (recordsIn s) (λ z. q (sym z)), ← keep-same (ofDesk e) (recordsIn s)) (sound-stands s (p .sound) .reserved-held e o)
-      ])
-
-  -- a desk's records are within its reservation, which is none where it is not open
-  desk-within : (e : ℕ) → e < desks → length (keep (ofDesk e) (recordsIn t)) ≤ reservedAt s e
-  desk-within e l = elim (open? s e) [
-    | yes o ↦ rw (is-true (isOpen s e) (o .opened)) (let g = held-within e o in rw (keep-same (ofDesk e) (recordsIn t)) at g)
-    | no n ↦ elim (order 0 (length (keep (ofDesk e) (recordsIn t)))) [
-      | less m ↦ absurd (n (stranger m))
-      | same q ↦ omega arith
-      | more m ↦ absurd (omega arith)
-    ]
-  ]
-    where
-      stranger : 0 < length (keep (ofDesk e) (recordsIn t)) → Open s e
-      stranger m =
-          let k = key (getD (keep (ofDesk e) (recordsIn t)) 0 []) in
-          let u : T (ofDesk e k && held k (recordsIn t)) = rw (held-keep (ofDesk e) k (recordsIn t)) at (place-held k 0 (keep (ofDesk e) (recordsIn t)) m refl) in
-          let w = owned-after k (right (ofDesk e k) (held k (recordsIn t)) u) in
-          let q : w .desk ≡ e = sym (owned-desk s (p .sound) k w) ∙ eqb→eq (deskOf k) e (left (ofDesk e k) (held k (recordsIn t)) u) in
-          subst (Open s) q (w .at-open)
+  pub held-after : (e : ℕ) → Open s e → heldBy e (recordsIn t) ≤ reserveAt s e
+  held-after e o = rw (f .records-fed) (held-within s d i a p e o)
 
   pub few-after : used t ≤ room s
-  few-after =
-      let rs = recordsIn t in
-      let whole = length-desks desks rs (λ n l. let w = owned-after (key (getD rs n [])) (place-held (key (getD rs n [])) n rs l refl) in rw (owned-desk s (p .sound) (key (getD rs n [])) w) (w .at-open .desk)) in
-      let each : sum desks (λ e. length (keep (ofDesk e) rs)) ≤ sum desks (reservedAt s) = sum-mono desks desk-within in
-      omega (arith, records-length t, sound-stands s (p .sound) .reservations)
+  few-after = rw (← records-length t, f .records-fed) (room-enough s d i a p)

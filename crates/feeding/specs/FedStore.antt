@@ -18,7 +18,7 @@ abbrev pub recentAt : List ℕ → ℕ → Sample → List ℕ
 recentAt s d i = take (min (sizeAt s d i) (depthAt s d)) (slotsAt s d i)
 
 -- symbol a can be fed to sample i of desk d: none of the refusals applies
-pub record Feedable (s : List ℕ) (d : ℕ) (i : Sample) (a : ℕ) : Type 0 where
+pub record Acceptable (s : List ℕ) (d : ℕ) (i : Sample) (a : ℕ) : Type 0 where
   pub sound : soundb s ≡ true
   pub at-open : Open s d
   pub of-alphabet : a < symbolsAt s d

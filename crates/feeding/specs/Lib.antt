@@ -1,1 +1,2 @@
 pub mod FedStore
+pub mod Noted
