@@ -92,3 +92,7 @@ module _ (m z y a : ℕ) (l : List ℕ) (p : Places z y l) where
       ∙ ap (λ (k : ℕ). take y counted ++ symbols ++ drop k counted) past
       ∙ ap (λ (t : List ℕ). take y counted ++ symbols ++ t) (sym (drop-drop deepest y counted) ∙ ap (drop deepest) same)
       ∙ append-assoc (take y counted) symbols (drop deepest (drop y l))))
+
+  pub noted-back : (ys : List ℕ) → (let u = set (set l 1 m) z (getD (set l 1 m) z 0 + 1) in
+      ys ≡ shifted a (take (y + deepest - y) (drop y u)) → take y u ++ (ys ++ drop (y + deepest - y) (drop y u)) ≡ noted m z y a l)
+  noted-back ys e = rw e noted-lent

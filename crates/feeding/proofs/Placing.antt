@@ -6,7 +6,7 @@ use mathlib.Core.List.{List, [], _∷_, _++_}
 use Prim.Native.Nat.{ℕ, suc, _+_, _-_, _*_, _≤_, _<_}
 use native.Mathlib.Omega.{arith}
 use lib.ListN.{length, take, drop, getD, length-append, length-drop, List·getD-append}
-use lib.Seq.{ext-getD, getD-take, getD-drop, drop-at, drop-drop, length-take-le}
+use lib.Seq.{getD-take, drop-at, drop-drop, length-take-le}
 use Rattle.numbers.specs.Limits.{deepest, desks}
 use Rattle.numbers.specs.Sum.{one}
 use Rattle.numbers.proofs.Orders.{Order, less, same, more, order}
@@ -21,6 +21,7 @@ use Rattle.store.specs.Plain.{Open}
 use Rattle.store.proofs.Standing.{sound-stands, slots-long}
 use Rattle.feeding.specs.FedStore.{FedStore, Acceptable, recentAt, shifted}
 use Rattle.feeding.specs.Noted.{noted, Places}
+use Rattle.feeding.proofs.Sets.{six-at, six-are}
 use Rattle.feeding.proofs.Header.{slot-field}
 use Rattle.feeding.proofs.Filling.{room-enough}
 use Rattle.feeding.proofs.Noting.{noted-length, noted-before, noted-past, noted-used, noted-size, noted-symbol, noted-drop}
@@ -50,16 +51,6 @@ kin first first = own refl refl
 kin first second = other (λ e. omega arith) refl
 kin second first = other (λ e. omega arith) refl
 kin second second = own refl refl
-
--- six numbers from a place on
-six-at : (u : List ℕ) (y k : ℕ) → k < deepest → getD (take deepest (drop y u)) k 0 ≡ getD u (y + k) 0
-six-at u y k h = getD-take deepest (drop y u) k 0 h ∙ getD-drop y u k 0
-
-six-are : (u : List ℕ) (y : ℕ) (xs : List ℕ) → y + deepest ≤ length u → length xs ≡ deepest
-    → ((k : ℕ) → k < deepest → getD u (y + k) 0 ≡ getD xs k 0) → take deepest (drop y u) ≡ xs
-six-are u y xs h e each =
-    let six : length (take deepest (drop y u)) ≡ deepest = length-take-le deepest (drop y u) (rw (length-drop y u) (omega arith)) in
-    ext-getD 0 (take deepest (drop y u)) xs (six ∙ sym e) (λ k l. six-at u y k (omega arith) ∙ each k (omega arith))
 
 module _ (s : List ℕ) (d : ℕ) (i : Sample) (a : ℕ) (p : Acceptable s d i a) (m : ℕ) (ys : List ℕ) (long : length ys ≡ length (drop headerSize s))
     (w : Written (fed d i a (recentAt s d i) (recordsIn s)) m (drop headerSize s) ys) where
