@@ -1,5 +1,5 @@
 -- What a sound store's records meet of what their functions ask, and how a desk's records are counted. Assumes nothing.
-use mathlib.Core.Path.{_≡_, refl, sym, ap, _∙_, subst}
+use mathlib.Core.Path.{_≡_, refl, sym, ap, ap₂, _∙_, subst}
 use mathlib.Core.Bool.{true}
 use mathlib.Core.List.{List, [], _++_}
 use Prim.Native.Nat.{ℕ, _+_, _-_, _*_, _≤_, _<_}
@@ -7,10 +7,11 @@ use native.Mathlib.Nat.{mul-le-mul-left}
 use native.Mathlib.Omega.{arith}
 use lib.ListN.{length, take, drop, getD, length-append, length-drop}
 use lib.Seq.{length-take-le}
-use Rattle.numbers.specs.Limits.{mostSymbols, longest, desks}
+use Rattle.numbers.specs.Limits.{mostSymbols, deepest, longest, desks, mostRoom}
 use Rattle.numbers.proofs.Sums.{sum-part}
 use Rattle.contexts.specs.Keys.{keyOf, deskSpan}
 use Rattle.contexts.specs.Sitting.{Sample, sampleOf}
+use Rattle.contexts.proofs.Strings.{context-length}
 use Rattle.records.specs.Records.{width, records, key, keys, countsOf, lookup}
 use Rattle.records.specs.Held.{rank, keep, ofDesk, without, Standing, Removable}
 use Rattle.records.specs.Fed.{missing, Askable, Feedable}
@@ -18,13 +19,16 @@ use Rattle.records.proofs.Parts.{length-parts}
 use Rattle.records.proofs.Rising.{rank-mono, length-keys, rank-length}
 use Rattle.records.proofs.Finding.{lookup-each, lookup-place}
 use Rattle.records.proofs.Counting.{count-blank}
+use Rattle.records.proofs.Growing.{missing-le}
+use Rattle.records.proofs.Lent.{tail-lent}
 use Rattle.records.proofs.Desks.{length-without, without-cut}
 use Rattle.store.specs.Layout.{headerSize, room, used, symbolsAt, sizeAt, recordsIn, countIn, totalOf}
-use Rattle.store.specs.Sound.{soundb}
+use Rattle.store.specs.Sound.{soundb, heldBy}
 use Rattle.store.specs.Plain.{Open, recordFor, recordAt}
 use Rattle.store.proofs.Parts.{records-length}
 use Rattle.store.proofs.Standing.{sound-stands}
 use Rattle.feeding.specs.FedStore.{Acceptable, recentAt}
+use Rattle.feeding.proofs.Bridge.{keep-same}
 use Rattle.feeding.proofs.Recent.{recent-within}
 use Rattle.feeding.proofs.Before.{rising, standing}
 use Rattle.feeding.proofs.Filling.{room-missing}
@@ -69,3 +73,35 @@ desk-many d n l low high st e f =
     let halves : length (take low rs ++ drop high rs) ≡ low + (n - high) =
     length-append (take low rs) (drop high rs) ∙ rw (length-take-le low rs (omega arith), length-drop high rs, count) in
     (up, omega (arith, length-without d rs))
+
+-- the records part as it is lent to be read
+module _ (s : List ℕ) (h : soundb s ≡ true) (d : ℕ) (r : List ℕ) (q : Askable d r (used s) (drop headerSize s)) where
+  abbrev lent : List ℕ
+  lent = take (length s - headerSize) (drop headerSize s)
+
+  pub lent-removable : Removable d (used s) lent
+  lent-removable = rw (tail-lent headerSize s) (record { standing = q .standing; desk = q .desk })
+
+  pub lent-askable : Askable d r (used s) lent
+  lent-askable = rw (tail-lent headerSize s) q
+
+  -- what is held and what is missing, counted there
+  module _ (x y : ℕ) (e : x ≡ length (keep (ofDesk d) (records (used s) lent))) (f : y ≡ missing d r (records (used s) lent)) where
+    pub then-small : x + y ≤ mostRoom + 7
+    then-small =
+        omega (
+          arith,
+          length-without d (records (used s) lent),
+          length-parts width (used s) lent,
+          missing-le d r (records (used s) lent),
+          context-length mostSymbols deepest r (q .context),
+          sound-stands s h .few,
+          sound-stands s h .room-most,
+        )
+
+    pub then-is : x + y ≡ heldBy d (recordsIn s) + missing d r (recordsIn s)
+    unfolding recordsIn
+    then-is =
+        let held-there : x ≡ heldBy d (records (used s) (drop headerSize s)) = e ∙ rw (tail-lent headerSize s) (ap length (sym (keep-same (ofDesk d) (records (used s) (drop headerSize s))))) in
+        let missing-there : y ≡ missing d r (records (used s) (drop headerSize s)) = f ∙ rw (tail-lent headerSize s) in
+        ap₂ _+_ held-there missing-there

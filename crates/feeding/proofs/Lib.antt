@@ -14,3 +14,6 @@ pub mod Sets
 pub mod Noting
 pub mod Placing
 pub mod Asking
+pub mod Writing
+pub mod Answering
+pub mod Refusing

@@ -62,16 +62,16 @@ module _ (s : List ℕ) (d : ℕ) (i : Sample) (a : ℕ) (p : Acceptable s d i a
   abbrev done : List ℕ
   done = noted m (deskStart d + sizeField i) (deskStart d + recentField i) a counted
 
-  header-long : headerSize ≤ length s
+  pub header-long : headerSize ≤ length s
   header-long = omega (arith, sound-stands s (p .sound) .long)
 
   front-long : length (take headerSize s) ≡ headerSize
   front-long = length-take-le headerSize s header-long
 
-  counted-long : length counted ≡ length s
+  pub counted-long : length counted ≡ length s
   counted-long = omega (arith, length-append (take headerSize s) ys, front-long, long, length-drop headerSize s, header-long)
 
-  counted-header : (k : ℕ) → k < headerSize → getD counted k 0 ≡ getD s k 0
+  pub counted-header : (k : ℕ) → k < headerSize → getD counted k 0 ≡ getD s k 0
   counted-header k h = List·getD-append (take headerSize s) ys 0 k (omega (arith, front-long)) ∙ getD-take headerSize s k 0 h
 
   places : Places (deskStart d + sizeField i) (deskStart d + recentField i) counted

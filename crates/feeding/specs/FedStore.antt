@@ -7,7 +7,7 @@ use mathlib.Core.List.{List, [], _∷_}
 use lib.ListN.{length, take, drop}
 use Rattle.numbers.specs.Limits.{longest, desks}
 use Rattle.numbers.specs.Sum.{one}
-use Rattle.contexts.specs.Sitting.{Sample, sameSample}
+use Rattle.contexts.specs.Sitting.{Sample, sampleOf, sameSample}
 use Rattle.records.specs.Fed.{fed, missing}
 use Rattle.store.specs.Layout.{storeSize, room, field, symbolsAt, depthAt, reserveAt, sizeAt, slotsAt, recordsIn}
 use Rattle.store.specs.Sound.{soundb, heldBy}
@@ -16,6 +16,14 @@ use Rattle.store.specs.Plain.{Open}
 -- the last up to D symbols of a sample, most recent first
 abbrev pub recentAt : List ℕ → ℕ → Sample → List ℕ
 recentAt s d i = take (min (sizeAt s d i) (depthAt s d)) (slotsAt s d i)
+
+-- what refusals 1 to 9 leave to a feed of symbol a to sample number k of desk d
+pub record Judged (s : List ℕ) (d k a : ℕ) : Type 0 where
+  pub sound : soundb s ≡ true
+  pub at-open : Open s d
+  pub of-samples : k ≤ 1
+  pub of-alphabet : a < symbolsAt s d
+  pub not-full : sizeAt s d (sampleOf k) < longest
 
 -- symbol a can be fed to sample i of desk d: none of the refusals applies
 pub record Acceptable (s : List ℕ) (d : ℕ) (i : Sample) (a : ℕ) : Type 0 where

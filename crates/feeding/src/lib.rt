@@ -1,18 +1,132 @@
 // Feeding at a store: one symbol, and a run of them after one soundness test.
 ghost use mathlib.Core.Path.{_≡_};
 ghost use mathlib.Core.Bool.{true};
-ghost use Prim.Native.Nat.{_+_, _≤_, _<_};
+ghost use Prim.Native.Nat.{min, _+_, _≤_, _<_};
 ghost use lib.ListN.{length, take, drop, getD};
 ghost use Rattle.numbers.specs.Limits.{deepest, longest};
 ghost use Rattle.contexts.specs.Sitting.{sampleOf};
 ghost use Rattle.records.specs.Records.{records};
 ghost use Rattle.records.specs.Held.{keep, ofDesk, Removable};
-ghost use Rattle.feeding.specs.FedStore.{shifted, recentAt, Acceptable, FedStore};
+ghost use Rattle.records.specs.Fed.{missing, Askable};
+ghost use Rattle.replay.specs.Machine.{atDesk, asking};
+ghost use Rattle.store.specs.Layout.{headerSize, used, recordsIn};
+ghost use Rattle.store.specs.Sound.{soundb, heldBy};
+ghost use Rattle.rules.specs.Rules.{feed};
+ghost use Rattle.calls.specs.Refusals.{outcomeOf};
+ghost use Rattle.calls.specs.Promises.{Moves};
+ghost use Rattle.feeding.specs.FedStore.{shifted, recentAt, Judged, Acceptable, FedStore};
 ghost use Rattle.feeding.specs.Noted.{noted, Places};
+use calls::Refusal;
+use calls::Verdict;
+use records::feed_records;
+use records::missing_in;
 use records::place_of;
+use store::layout::DEPTH;
+use store::layout::DESK_SIZE;
 use store::layout::DESK_SPAN;
+use store::layout::DESKS;
+use store::layout::FIRST_DESK;
+use store::layout::HEADER;
+use store::layout::LONGEST;
+use store::layout::OPEN;
+use store::layout::RECENT_FIRST;
+use store::layout::RESERVE;
+use store::layout::SIZE_FIRST;
 use store::layout::SLOTS;
+use store::layout::SYMBOLS;
 use store::layout::USED;
+use store::layout::field_at;
+use store::sound;
+
+// One more symbol of a sample at a desk.
+pub fn feed(store: &mut [u32], desk: u32, sample: u32, symbol: u32) -> Verdict
+    ensures { λ r. ⌜ Moves (now (store .entry)) (atDesk desk (asking (feed sample symbol))) (outcomeOf r) (now (store .exit)) ⌝ }
+{
+    if sound(store) {
+        return feed_sound(store, desk, sample, symbol);
+    }
+    Verdict::Refused(Refusal::Unsound)
+}
+
+// The same at a store that has passed its test: the refusals in the table's order.
+fn feed_sound(store: &mut [u32], desk: u32, sample: u32, symbol: u32) -> Verdict
+    requires { ⌜ soundb (now store) ≡ true ⌝ }
+    ensures { λ r. ⌜ Moves (now (store .entry)) (atDesk desk (asking (feed sample symbol))) (outcomeOf r) (now (store .exit)) ⌝ }
+{
+    let d = desk as usize;
+    if DESKS <= d {
+        return Verdict::Refused(Refusal::NoSuchDesk);
+    }
+    if field_at(store, d, OPEN) != 1 {
+        return Verdict::Refused(Refusal::NotOpen);
+    }
+    if 1 < sample {
+        return Verdict::Refused(Refusal::NotOfSitting);
+    }
+    if field_at(store, d, SYMBOLS) <= symbol {
+        return Verdict::Refused(Refusal::NotOfSitting);
+    }
+    if LONGEST <= field_at(store, d, SIZE_FIRST + sample as usize) {
+        return Verdict::Refused(Refusal::SampleFull);
+    }
+    feed_judged(store, desk, sample, symbol)
+}
+
+// Refusal 10, or the feed: what the other refusals left.
+fn feed_judged(store: &mut [u32], desk: u32, sample: u32, symbol: u32) -> Verdict
+    requires { ⌜ Judged (now store) desk sample symbol ⌝ }
+    ensures { λ r. ⌜ Moves (now (store .entry)) (atDesk desk (asking (feed sample symbol))) (outcomeOf r) (now (store .exit)) ⌝ }
+{
+    let d = desk as usize;
+    let i = sample as usize;
+    let size = field_at(store, d, SIZE_FIRST + i);
+    let depth = field_at(store, d, DEPTH);
+    let many = fewer(size, depth) as usize;
+    let slots = six_from(
+        store,
+        FIRST_DESK + DESK_SIZE * d + (RECENT_FIRST + SLOTS * i),
+    );
+    let reserve = field_at(store, d, RESERVE) as usize;
+    if reserve < held_then(store, desk, &slots[..many]) {
+        return Verdict::Refused(Refusal::PastReservation);
+    }
+    write_feed(store, desk, sample, symbol, &slots[..many]);
+    Verdict::Done
+}
+
+// How many contexts the desk's sitting holds after a symbol that follows `recent`.
+fn held_then(store: &[u32], desk: u32, recent: &[u32]) -> usize
+    requires { ⌜ (soundb (now store) ≡ true) × Askable desk (now recent) (used (now store)) (drop headerSize (now store)) ⌝ }
+    ensures { λ r. ⌜ r ≡ heldBy desk (recordsIn (now (store .entry))) + missing desk (now (recent .entry)) (recordsIn (now (store .entry))) ⌝ }
+{
+    let many = store[USED] as usize;
+    let body = &store[HEADER..];
+    held_by(body, many, desk) + missing_in(body, many, desk, recent)
+}
+
+// Writes an accepted feed: the records, then the header. `recent` are the symbols before it, most recent first.
+fn write_feed(store: &mut [u32], desk: u32, sample: u32, symbol: u32, recent: &[u32])
+    requires { ⌜ Acceptable (now store) desk (sampleOf sample) symbol × (sample ≤ 1) × (now recent ≡ recentAt (now store) desk (sampleOf sample)) ⌝ }
+    ensures { λ _. ⌜ FedStore (now (store .entry)) (now (store .exit)) desk (sampleOf sample) symbol ⌝ }
+{
+    let many = store[USED] as usize;
+    let count = feed_records(&mut store[HEADER..], many, desk, sample, symbol, recent);
+    let start = FIRST_DESK + DESK_SIZE * desk as usize;
+    let i = sample as usize;
+    let size = start + (SIZE_FIRST + i);
+    let slots = start + (RECENT_FIRST + SLOTS * i);
+    note(store, count as u32, size, slots, symbol);
+}
+
+// The smaller of two numbers.
+fn fewer(a: u32, b: u32) -> u32
+    ensures { λ r. ⌜ r ≡ min a b ⌝ }
+{
+    if a < b {
+        return a;
+    }
+    b
+}
 
 // How many of the first `n` records are a desk's.
 fn held_by(numbers: &[u32], n: usize, desk: u32) -> usize
