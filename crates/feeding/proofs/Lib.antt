@@ -17,3 +17,4 @@ pub mod Asking
 pub mod Writing
 pub mod Answering
 pub mod Refusing
+pub mod Running

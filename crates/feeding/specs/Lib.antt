@@ -1,2 +1,3 @@
 pub mod FedStore
 pub mod Noted
+pub mod Run

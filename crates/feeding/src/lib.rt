@@ -16,6 +16,7 @@ ghost use Rattle.calls.specs.Refusals.{outcomeOf};
 ghost use Rattle.calls.specs.Promises.{Moves};
 ghost use Rattle.feeding.specs.FedStore.{shifted, recentAt, Judged, Acceptable, FedStore};
 ghost use Rattle.feeding.specs.Noted.{noted, Places};
+ghost use Rattle.feeding.specs.Run.{endingOf, Runs};
 use calls::Refusal;
 use calls::Verdict;
 use records::feed_records;
@@ -38,6 +39,18 @@ use store::layout::USED;
 use store::layout::field_at;
 use store::sound;
 
+// How a run of feeds ended: with the whole sample, or with the refusal that the next feed got.
+pub enum Ending {
+    Whole,
+    Refused(Refusal),
+}
+
+// How many feeds of a run were accepted, and how it ended.
+pub struct Fed {
+    pub accepted: usize,
+    pub ending: Ending,
+}
+
 // One more symbol of a sample at a desk.
 pub fn feed(store: &mut [u32], desk: u32, sample: u32, symbol: u32) -> Verdict
     ensures { λ r. ⌜ Moves (now (store .entry)) (atDesk desk (asking (feed sample symbol))) (outcomeOf r) (now (store .exit)) ⌝ }
@@ -48,7 +61,45 @@ pub fn feed(store: &mut [u32], desk: u32, sample: u32, symbol: u32) -> Verdict
     Verdict::Refused(Refusal::Unsound)
 }
 
-// The same at a store that has passed its test: the refusals in the table's order.
+// A run of feeds to one sample, after one soundness test: it stops at the first that is refused.
+pub fn feed_all(store: &mut [u32], desk: u32, sample: u32, symbols: &[u8]) -> Fed
+    ensures { λ r. ⌜ Runs (now (store .entry)) desk sample (now (symbols .entry)) (r .accepted) (endingOf (r .ending)) (now (store .exit)) ⌝ }
+{
+    if sound(store) {
+        return feed_run(store, desk, sample, symbols);
+    }
+    Fed {
+        accepted: 0,
+        ending: Ending::Refused(Refusal::Unsound),
+    }
+}
+
+// The run at a store that has passed its test.
+fn feed_run(store: &mut [u32], desk: u32, sample: u32, symbols: &[u8]) -> Fed
+    requires { ⌜ soundb (now store) ≡ true ⌝ }
+    ensures { λ r. ⌜ Runs (now (store .entry)) desk sample (now (symbols .entry)) (r .accepted) (endingOf (r .ending)) (now (store .exit)) ⌝ }
+{
+    let mut done: usize = 0;
+    while done < symbols.len() {
+        match feed_sound(store, desk, sample, symbols[done] as u32) {
+            Verdict::Done => {
+                done = done + 1;
+            }
+            Verdict::Refused(why) => {
+                return Fed {
+                    accepted: done,
+                    ending: Ending::Refused(why),
+                };
+            }
+        }
+    }
+    Fed {
+        accepted: done,
+        ending: Ending::Whole,
+    }
+}
+
+// One feed at a store that has passed its test: the refusals in the table's order.
 fn feed_sound(store: &mut [u32], desk: u32, sample: u32, symbol: u32) -> Verdict
     requires { ⌜ soundb (now store) ≡ true ⌝ }
     ensures { λ r. ⌜ Moves (now (store .entry)) (atDesk desk (asking (feed sample symbol))) (outcomeOf r) (now (store .exit)) ⌝ }
