@@ -1,0 +1,99 @@
+-- The records after a feed: their order, their totals, and how many each desk has. Assumes nothing.
+use mathlib.Core.Path.{_≡_, refl, sym, ap, _∙_, subst}
+use mathlib.Core.Logic.{_≢_}
+use mathlib.Core.Bool.{Bool, true, false, _&&_, _||_}
+use mathlib.Core.List.{List, [], _∷_}
+use Prim.Native.Nat.{ℕ, _+_, _≤_, _<_}
+use native.Mathlib.Omega.{arith}
+use borrow.Author.Tests.{eq-eqb, ne-eqb}
+use lib.Dec.{T, eqb, eqb→eq}
+use lib.ListN.{length, getD}
+use Rattle.numbers.specs.Limits.{mostSymbols, desks}
+use Rattle.numbers.specs.Sum.{one, sum}
+use Rattle.numbers.proofs.Tests.{left, right, is-true, is-false}
+use Rattle.numbers.proofs.Orders.{less, same, more, order}
+use Rattle.numbers.proofs.Sums.{sum-mono}
+use Rattle.contexts.specs.Context.{begins}
+use Rattle.contexts.specs.Keys.{keyOf, deskOf}
+use Rattle.contexts.specs.Sitting.{Sample, first, second, sameSample}
+use Rattle.contexts.proofs.KeyOrder.{Within}
+use Rattle.records.specs.Records.{key, lookup}
+use Rattle.records.specs.Held.{held, keep, ofDesk, Rising}
+use Rattle.records.specs.Fed.{fed, missing}
+use Rattle.records.proofs.Keeping.{held-keep}
+use Rattle.records.proofs.Finding.{place-held}
+use Rattle.records.proofs.Feeding.{count-fed, held-fed, rising-fed}
+use Rattle.records.proofs.Growing.{desk-length-fed, other-fed}
+use Rattle.records.proofs.Desks.{length-desks}
+use Rattle.store.specs.Layout.{room, used, isOpen, symbolsAt, reserveAt, recordsIn, countIn, totalOf}
+use Rattle.store.specs.Sound.{heldBy, reservedAt}
+use Rattle.store.specs.Plain.{Open, ContextAt, recordFor, totalAt, Sound}
+use Rattle.store.proofs.Parts.{records-length}
+use Rattle.store.proofs.Passing.{passed, desk-passed}
+use Rattle.store.proofs.Fitting.{open?}
+use Rattle.store.proofs.Standing.{sound-stands}
+use Rattle.feeding.specs.FedStore.{FedStore, Acceptable, recentAt}
+use Rattle.feeding.proofs.Bridge.{keep-same}
+use Rattle.feeding.proofs.Recent.{recent-within, within}
+use Rattle.feeding.proofs.Before.{rising, wide, held-seen}
+use Rattle.feeding.proofs.Counted.{total-fed}
+use Rattle.feeding.proofs.Owning.{Owned, owned-fed, owned-desk}
+use Rattle.feeding.proofs.Filling.{held-within, room-enough}
+
+module _ (s t : List ℕ) (d : ℕ) (i : Sample) (a : ℕ) (f : FedStore s t d i a) (p : Acceptable s d i a) where
+  abbrev fedRecords : List (List ℕ)
+  fedRecords = fed d i a (recentAt s d i) (recordsIn s)
+
+  cr : Within (recentAt s d i)
+  cr = recent-within s (p .sound) d (p .at-open) i
+
+  small : a < mostSymbols
+  small = omega (arith, p .of-alphabet, desk-passed s (passed s (p .sound)) d (p .at-open) .most)
+
+  pub rising-after : Rising (recordsIn t)
+  rising-after = rw (f .records-fed) (rising-fed d i a (recentAt s d i) (recordsIn s) (rising s (p .sound)))
+
+  -- ---- counts and totals
+
+  pub count-after : (e : ℕ) (c : List ℕ) → Within c → (j : Sample) (b : ℕ)
+      → countIn j (recordFor t e c) b ≡ countIn j (recordFor s e c) b + one (eqb d e && (sameSample i j && (begins c (recentAt s d i) && eqb a b)))
+  count-after e c x j b =
+      ap (λ (rs : List (List ℕ)). countIn j (lookup (keyOf e c) rs) b) (f .records-fed)
+      ∙ count-fed d (recentAt s d i) cr e c x i a j b (recordsIn s) small (wide s (p .sound)) (rising s (p .sound))
+
+  pub total-after : (e : ℕ) (c : List ℕ) → Within c → (j : Sample)
+      → totalAt t e j c ≡ totalAt s e j c + one (eqb d e && (sameSample i j && begins c (recentAt s d i)))
+  total-after e c x j =
+      ap (λ (rs : List (List ℕ)). totalOf j (lookup (keyOf e c) rs)) (f .records-fed)
+      ∙ total-fed d i a (recentAt s d i) cr small (recordsIn s) (wide s (p .sound)) (rising s (p .sound)) e c x j
+
+  -- ---- whose a record is
+
+  pub owned-after : (k : ℕ) → T (held k (recordsIn t)) → Owned s k
+  owned-after k h = owned-fed s (p .sound) d (p .at-open) i a k (rw (f .records-fed) at h)
+
+  -- what a held context has counted
+  pub seen-after : (e : ℕ) (c : List ℕ) → Within c → T (held (keyOf e c) (recordsIn t)) → 0 < totalAt t e first c + totalAt t e second c
+  seen-after e c x h =
+      rw (total-after e c x first, total-after e c x second) (go (eqb d e) (begins c (recentAt s d i)) i h′)
+    where
+      h′ : T ((eqb d e && begins c (recentAt s d i)) || held (keyOf e c) (recordsIn s))
+      h′ = rw (f .records-fed, held-fed d (recentAt s d i) cr e c x i a (recordsIn s)) at h
+
+      before : T (held (keyOf e c) (recordsIn s)) → 0 < totalAt s e first c + totalAt s e second c
+      before = held-seen s (p .sound) (keyOf e c)
+
+      go : (q b : Bool) (j : Sample) → T ((q && b) || held (keyOf e c) (recordsIn s))
+          → 0 < totalAt s e first c + one (q && (sameSample j first && b)) + (totalAt s e second c + one (q && (sameSample j second && b)))
+      go true true first u = omega arith
+      go true true second u = omega arith
+      go true false j u = omega (arith, before u)
+      go false b j u = omega (arith, before u)
+
+  -- ---- how many
+
+  pub held-after : (e : ℕ) → Open s e → heldBy e (recordsIn t) ≤ reserveAt s e
+  held-after e o = rw (f .records-fed) (held-within s d i a p e o)
+
+  pub few-after : used t ≤ room s
+  few-after = rw (← records-length t, f .records-fed) (room-enough s d i a p)

@@ -1,0 +1,70 @@
+-- An accepted feed as the code writes it: the records part lent and come back, then the header noted. Assumes nothing.
+use mathlib.Core.Path.{_≡_, refl, sym, ap, ap₂, _∙_, subst}
+use mathlib.Core.List.{List, _++_}
+use Prim.Native.Nat.{ℕ, zero, suc, _+_, _-_, _*_, _≤_, _<_}
+use native.Mathlib.Omega.{arith}
+use lib.ListN.{length, take, drop, getD}
+use Rattle.numbers.specs.Limits.{longest, mostRoom}
+use Rattle.contexts.specs.Sitting.{Sample, sampleOf}
+use Rattle.records.specs.Records.{records}
+use Rattle.records.specs.Bumped.{Written}
+use Rattle.records.specs.Fed.{fed, Feedable}
+use Rattle.records.proofs.Lent.{tail-lent, tail-back}
+use Rattle.records.proofs.Settling.{written-count}
+use Rattle.store.specs.Layout.{headerSize, used, deskStart, sizeField, recentField, recordsIn}
+use Rattle.store.proofs.Standing.{sound-stands}
+use Rattle.feeding.specs.FedStore.{FedStore, Acceptable, recentAt}
+use Rattle.feeding.specs.Noted.{noted, Places}
+use Rattle.feeding.proofs.Filling.{room-enough}
+use Rattle.feeding.proofs.Placing.{desk-places, counted-long, counted-header, header-long, fed-store}
+use Rattle.feeding.proofs.Asking.{feedable}
+
+-- where a sample's numbers stand, by the sample's number
+pub size-number : (k : ℕ) → k ≤ 1 → 4 + k ≡ sizeField (sampleOf k)
+size-number zero l = refl
+size-number (suc zero) l = refl
+size-number (suc (suc k)) l = absurd (omega arith)
+
+pub recent-number : (k : ℕ) → k ≤ 1 → 6 + 6 * k ≡ recentField (sampleOf k)
+recent-number zero l = refl
+recent-number (suc zero) l = refl
+recent-number (suc (suc k)) l = absurd (omega arith)
+
+module _ (s : List ℕ) (d k a : ℕ) (p : Acceptable s d (sampleOf k) a) (one : k ≤ 1) (r : List ℕ) (e : r ≡ recentAt s d (sampleOf k)) where
+  abbrev lent : List ℕ
+  lent = take (length s - headerSize) (drop headerSize s)
+
+  pub lent-feedable : Feedable d k a r (used s) lent
+  lent-feedable = rw (e, tail-lent headerSize s) (feedable s d k a one p)
+
+  module _ (m : ℕ) (ys : List ℕ) (long : length ys ≡ length lent) (w : Written (fed d (sampleOf k) a r (records (used s) lent)) m lent ys) where
+    abbrev back : List ℕ
+    back = take headerSize s ++ (ys ++ drop (length s - headerSize) (drop headerSize s))
+
+    back-is : back ≡ take headerSize s ++ ys
+    back-is = tail-back headerSize ys s
+
+    long′ : length ys ≡ length (drop headerSize s)
+    long′ = long ∙ ap length (tail-lent headerSize s)
+
+    w′ : Written (fed d (sampleOf k) a (recentAt s d (sampleOf k)) (recordsIn s)) m (drop headerSize s) ys
+    unfolding recordsIn
+    w′ = rw (e, tail-lent headerSize s) at w
+
+    pub count-fits : m ≤ mostRoom
+    count-fits = omega (arith, written-count _ m (drop headerSize s) ys w′, room-enough s d (sampleOf k) a p, sound-stands s (p .sound) .room-most)
+
+    size-there : getD (take headerSize s ++ ys) (deskStart d + sizeField (sampleOf k)) 0 < longest
+    size-there = rw (counted-header s d (sampleOf k) a p m ys long′ w′ (deskStart d + sizeField (sampleOf k)) (omega (arith, p .at-open .desk, size-number k one))) (p .not-full)
+
+    pub note-asks : Places (deskStart d + (4 + k)) (deskStart d + (6 + 6 * k)) back × (getD back (deskStart d + (4 + k)) 0 < longest)
+    note-asks =
+        let n = counted-long s d (sampleOf k) a p m ys long′ w′ in
+        let h = header-long s d (sampleOf k) a p m ys long′ w′ in
+        rw (back-is, size-number k one, recent-number k one) (desk-places (take headerSize s ++ ys) d (sampleOf k) (p .at-open .desk) (omega arith), size-there)
+
+    -- THEOREM. What comes of it is the store fed
+    pub written : (t : List ℕ) → t ≡ noted m (deskStart d + (4 + k)) (deskStart d + (6 + 6 * k)) a back → FedStore s t d (sampleOf k) a
+    written t q =
+        let g : t ≡ noted m (deskStart d + sizeField (sampleOf k)) (deskStart d + recentField (sampleOf k)) a (take headerSize s ++ ys) = q ∙ rw (back-is, size-number k one, recent-number k one) in
+        subst (λ (u : List ℕ). FedStore s u d (sampleOf k) a) (sym g) (fed-store s d (sampleOf k) a p m ys long′ w′)

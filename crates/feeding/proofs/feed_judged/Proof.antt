@@ -1,0 +1,155 @@
+-- `feeding::feed_judged` meets its contract: refusal 10, or the store fed. Assumes nothing.
+use Prim.Native.Nat.{_+_}
+use native.Mathlib.Omega.{arith}
+use mathlib.Core.Path.{sym}
+use lib.Seq.{length-take-le}
+use borrow.Author.Needs.{needs}
+use Rattle.feeding.proofs.Answering.{Copied, field-asked, six-asked, copied, then-asks, refused-past, write-asks, fed-moves}
+use Rattle.feeding.proofs.feed_judged.Statement.{statement}
+use Rattle.feeding.proofs.feed_judged.Tie as tie
+
+-- what was copied is what is recent
+recent : (c : tie.After-six-from) → (let x = c .before .before .before .before .before .before .before .before .args in
+    Copied (x .store .now) (x .desk) (x .sample) (c .before .before .fewer .result) (c .six-from .result))
+recent c =
+    let start = c .before .before .before .before .before .before .before .before in
+    let x = start .args in
+    copied (x .store .now) (x .desk) (x .sample) (x .symbol) (start .pre) (c .before .before .before .before .before .field-at .result) (c .before .before .before .field-at2 .result)
+    (c .before .before .fewer .result) (c .six-from .result) (c .before .before .before .before .before .field-at .ensures) (c .before .before .before .field-at2 .ensures)
+    (c .before .before .fewer .ensures) (c .six-from .ensures)
+
+add-field-at : tie.Need-add-field-at
+add-field-at c = search needs
+
+field-at-requires : tie.Need-field-at-requires
+field-at-requires c κs =
+    let start = c .before .before in
+    let x = start .args in
+    field-asked (x .store .now) (x .desk) (x .sample) (x .symbol) (start .pre) (4 + x .sample) (omega (arith, start .pre .of-samples))
+
+field-at-requires-2 : tie.Need-field-at-requires-2
+field-at-requires-2 c κs =
+    let start = c .before .before .before .before in
+    let x = start .args in
+    field-asked (x .store .now) (x .desk) (x .sample) (x .symbol) (start .pre) 2 (omega arith)
+
+fewer-requires : tie.Need-fewer-requires
+fewer-requires c κs = search needs
+
+cast-many : tie.Need-cast-many
+cast-many c = search needs
+
+mul-six-from : tie.Need-mul-six-from
+mul-six-from c = search needs
+
+add-six-from : tie.Need-add-six-from
+add-six-from c = search needs
+
+mul-six-from-2 : tie.Need-mul-six-from-2
+mul-six-from-2 c = search needs
+
+add-six-from-2 : tie.Need-add-six-from-2
+add-six-from-2 c = search needs
+
+add-six-from-3 : tie.Need-add-six-from-3
+add-six-from-3 c = search needs
+
+six-from-requires : tie.Need-six-from-requires
+six-from-requires c κs =
+    let start = c .before .before .before .before .before .before .before in
+    let x = start .args in
+    six-asked (x .store .now) (x .desk) (x .sample) (x .symbol) (start .pre)
+
+field-at-requires-3 : tie.Need-field-at-requires-3
+field-at-requires-3 c κs =
+    let start = c .before .before .before .before .before .before .before .before .before in
+    let x = start .args in
+    field-asked (x .store .now) (x .desk) (x .sample) (x .symbol) (start .pre) 3 (omega arith)
+
+cast-reserve : tie.Need-cast-reserve
+cast-reserve c = search needs
+
+array-share-prefix-slots : tie.Need-array-share-prefix-slots
+array-share-prefix-slots c = recent (c .before .before .before) .fits
+
+slice-aggregate-held-then : tie.Need-slice-aggregate-held-then
+slice-aggregate-held-then c =
+    let six = c .before .before .before .before in
+    sym (length-take-le (six .before .before .fewer .result) (six .six-from .result) (recent six .fits))
+
+held-then-requires : tie.Need-held-then-requires
+held-then-requires c κs =
+    let start = c .before .before .before .before .before .before .before .before .before .before .before .before in
+    let x = start .args in
+    let six = c .before .before .before .before in
+    then-asks (x .store .now) (x .desk) (x .sample) (x .symbol) (start .pre) (six .before .before .fewer .result) (six .six-from .result) (recent six)
+
+same-length : tie.Need-same-length
+same-length c = search needs
+
+returns : tie.Need-returns
+returns c =
+    let start = c .before .before .before .before .before .before .before .before .before .before .before .before .before .before in
+    let x = start .args in
+    let six = c .before .before .before .before .before .before in
+    let reserve = c .before .before .before .before .field-at3 in
+    let held = c .before .held-then in
+    refused-past (x .store .now) (x .desk) (x .sample) (x .symbol) (start .pre) (six .before .before .fewer .result) (six .six-from .result) (recent six) (reserve .result) (held .result) (reserve .ensures) (held .ensures) (c .if1 .taken)
+
+array-share-prefix-slots-2 : tie.Need-array-share-prefix-slots-2
+array-share-prefix-slots-2 c = recent (c .before .before .before .before .before .before .before) .fits
+
+slice-aggregate-write-feed : tie.Need-slice-aggregate-write-feed
+slice-aggregate-write-feed c =
+    let six = c .before .before .before .before .before .before .before .before in
+    sym (length-take-le (six .before .before .fewer .result) (six .six-from .result) (recent six .fits))
+
+write-feed-requires : tie.Need-write-feed-requires
+write-feed-requires c κs =
+    let start = c .before .before .before .before .before .before .before .before .before .before .before .before .before .before .before .before in
+    let x = start .args in
+    let six = c .before .before .before .before .before .before .before .before in
+    let reserve = c .before .before .before .before .before .before .field-at3 in
+    let held = c .before .before .before .held-then in
+    write-asks (x .store .now) (x .desk) (x .sample) (x .symbol) (start .pre) (six .before .before .fewer .result) (six .six-from .result) (recent six) (reserve .result) (held .result) (reserve .ensures) (held .ensures) (c .before .before .if1 .left)
+
+same-length-2 : tie.Need-same-length-2
+same-length-2 c = search needs
+
+returns-2 : tie.Need-returns-2
+returns-2 c =
+    let start = c .before .before .before .before .before .before .before .before .before .before .before .before .before .before .before .before .before .before .before in
+    let x = start .args in
+    let six = c .before .before .before .before .before .before .before .before .before .before .before in
+    let reserve = c .before .before .before .before .before .before .before .before .before .field-at3 in
+    let held = c .before .before .before .before .before .before .held-then in
+    let wrote = c .before .before .write-feed in
+    fed-moves (x .store .now) (x .desk) (x .sample) (x .symbol) (start .pre) (six .before .before .fewer .result) (six .six-from .result) (recent six) (reserve .result) (held .result) (reserve .ensures) (held .ensures) (c .before .before .before .before .before .if1 .left) (wrote .last .0) (wrote .ensures)
+
+pub feed-judged-spec : {M : Type 1} → statement M
+feed-judged-spec =
+    tie.close
+    (tie.spec
+    add-field-at
+    field-at-requires
+    field-at-requires-2
+    fewer-requires
+    cast-many
+    mul-six-from
+    add-six-from
+    mul-six-from-2
+    add-six-from-2
+    add-six-from-3
+    six-from-requires
+    field-at-requires-3
+    cast-reserve
+    array-share-prefix-slots
+    slice-aggregate-held-then
+    held-then-requires
+    same-length
+    returns
+    array-share-prefix-slots-2
+    slice-aggregate-write-feed
+    write-feed-requires
+    same-length-2
+    returns-2)

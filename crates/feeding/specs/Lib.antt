@@ -1,0 +1,3 @@
+pub mod FedStore
+pub mod Noted
+pub mod Run

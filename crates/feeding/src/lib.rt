@@ -1,0 +1,231 @@
+// Feeding at a store: one symbol, and a run of them after one soundness test.
+ghost use mathlib.Core.Path.{_≡_};
+ghost use mathlib.Core.Bool.{true};
+ghost use Prim.Native.Nat.{min, _+_, _≤_, _<_};
+ghost use lib.ListN.{length, take, drop, getD};
+ghost use Rattle.numbers.specs.Limits.{deepest, longest};
+ghost use Rattle.contexts.specs.Sitting.{sampleOf};
+ghost use Rattle.records.specs.Records.{records};
+ghost use Rattle.records.specs.Held.{keep, ofDesk, Removable};
+ghost use Rattle.records.specs.Fed.{missing, Askable};
+ghost use Rattle.replay.specs.Machine.{atDesk, asking};
+ghost use Rattle.store.specs.Layout.{headerSize, used, recordsIn};
+ghost use Rattle.store.specs.Sound.{soundb, heldBy};
+ghost use Rattle.rules.specs.Rules.{feed};
+ghost use Rattle.calls.specs.Refusals.{outcomeOf};
+ghost use Rattle.calls.specs.Promises.{Moves};
+ghost use Rattle.feeding.specs.FedStore.{shifted, recentAt, Judged, Acceptable, FedStore};
+ghost use Rattle.feeding.specs.Noted.{noted, Places};
+ghost use Rattle.feeding.specs.Run.{endingOf, Runs};
+use calls::Refusal;
+use calls::Verdict;
+use records::feed_records;
+use records::missing_in;
+use records::place_of;
+use store::layout::DEPTH;
+use store::layout::DESK_SIZE;
+use store::layout::DESK_SPAN;
+use store::layout::DESKS;
+use store::layout::FIRST_DESK;
+use store::layout::HEADER;
+use store::layout::LONGEST;
+use store::layout::OPEN;
+use store::layout::RECENT_FIRST;
+use store::layout::RESERVE;
+use store::layout::SIZE_FIRST;
+use store::layout::SLOTS;
+use store::layout::SYMBOLS;
+use store::layout::USED;
+use store::layout::field_at;
+use store::sound;
+
+// How a run of feeds ended: with the whole sample, or with the refusal that the next feed got.
+pub enum Ending {
+    Whole,
+    Refused(Refusal),
+}
+
+// How many feeds of a run were accepted, and how it ended.
+pub struct Fed {
+    pub accepted: usize,
+    pub ending: Ending,
+}
+
+// One more symbol of a sample at a desk.
+pub fn feed(store: &mut [u32], desk: u32, sample: u32, symbol: u32) -> Verdict
+    ensures { λ r. ⌜ Moves (now (store .entry)) (atDesk desk (asking (feed sample symbol))) (outcomeOf r) (now (store .exit)) ⌝ }
+{
+    if sound(store) {
+        return feed_sound(store, desk, sample, symbol);
+    }
+    Verdict::Refused(Refusal::Unsound)
+}
+
+// A run of feeds to one sample, after one soundness test: it stops at the first that is refused.
+pub fn feed_all(store: &mut [u32], desk: u32, sample: u32, symbols: &[u8]) -> Fed
+    ensures { λ r. ⌜ Runs (now (store .entry)) desk sample (now (symbols .entry)) (r .accepted) (endingOf (r .ending)) (now (store .exit)) ⌝ }
+{
+    if sound(store) {
+        return feed_run(store, desk, sample, symbols);
+    }
+    Fed {
+        accepted: 0,
+        ending: Ending::Refused(Refusal::Unsound),
+    }
+}
+
+// The run at a store that has passed its test.
+fn feed_run(store: &mut [u32], desk: u32, sample: u32, symbols: &[u8]) -> Fed
+    requires { ⌜ soundb (now store) ≡ true ⌝ }
+    ensures { λ r. ⌜ Runs (now (store .entry)) desk sample (now (symbols .entry)) (r .accepted) (endingOf (r .ending)) (now (store .exit)) ⌝ }
+{
+    let mut done: usize = 0;
+    while done < symbols.len() {
+        match feed_sound(store, desk, sample, symbols[done] as u32) {
+            Verdict::Done => {
+                done = done + 1;
+            }
+            Verdict::Refused(why) => {
+                return Fed {
+                    accepted: done,
+                    ending: Ending::Refused(why),
+                };
+            }
+        }
+    }
+    Fed {
+        accepted: done,
+        ending: Ending::Whole,
+    }
+}
+
+// One feed at a store that has passed its test: the refusals in the table's order.
+fn feed_sound(store: &mut [u32], desk: u32, sample: u32, symbol: u32) -> Verdict
+    requires { ⌜ soundb (now store) ≡ true ⌝ }
+    ensures { λ r. ⌜ Moves (now (store .entry)) (atDesk desk (asking (feed sample symbol))) (outcomeOf r) (now (store .exit)) ⌝ }
+{
+    let d = desk as usize;
+    if DESKS <= d {
+        return Verdict::Refused(Refusal::NoSuchDesk);
+    }
+    if field_at(store, d, OPEN) != 1 {
+        return Verdict::Refused(Refusal::NotOpen);
+    }
+    if 1 < sample {
+        return Verdict::Refused(Refusal::NotOfSitting);
+    }
+    if field_at(store, d, SYMBOLS) <= symbol {
+        return Verdict::Refused(Refusal::NotOfSitting);
+    }
+    if LONGEST <= field_at(store, d, SIZE_FIRST + sample as usize) {
+        return Verdict::Refused(Refusal::SampleFull);
+    }
+    feed_judged(store, desk, sample, symbol)
+}
+
+// Refusal 10, or the feed: what the other refusals left.
+fn feed_judged(store: &mut [u32], desk: u32, sample: u32, symbol: u32) -> Verdict
+    requires { ⌜ Judged (now store) desk sample symbol ⌝ }
+    ensures { λ r. ⌜ Moves (now (store .entry)) (atDesk desk (asking (feed sample symbol))) (outcomeOf r) (now (store .exit)) ⌝ }
+{
+    let d = desk as usize;
+    let i = sample as usize;
+    let size = field_at(store, d, SIZE_FIRST + i);
+    let depth = field_at(store, d, DEPTH);
+    let many = fewer(size, depth) as usize;
+    let slots = six_from(
+        store,
+        FIRST_DESK + DESK_SIZE * d + (RECENT_FIRST + SLOTS * i),
+    );
+    let reserve = field_at(store, d, RESERVE) as usize;
+    if reserve < held_then(store, desk, &slots[..many]) {
+        return Verdict::Refused(Refusal::PastReservation);
+    }
+    write_feed(store, desk, sample, symbol, &slots[..many]);
+    Verdict::Done
+}
+
+// How many contexts the desk's sitting holds after a symbol that follows `recent`.
+fn held_then(store: &[u32], desk: u32, recent: &[u32]) -> usize
+    requires { ⌜ (soundb (now store) ≡ true) × Askable desk (now recent) (used (now store)) (drop headerSize (now store)) ⌝ }
+    ensures { λ r. ⌜ r ≡ heldBy desk (recordsIn (now (store .entry))) + missing desk (now (recent .entry)) (recordsIn (now (store .entry))) ⌝ }
+{
+    let many = store[USED] as usize;
+    let body = &store[HEADER..];
+    held_by(body, many, desk) + missing_in(body, many, desk, recent)
+}
+
+// Writes an accepted feed: the records, then the header. `recent` are the symbols before it, most recent first.
+fn write_feed(store: &mut [u32], desk: u32, sample: u32, symbol: u32, recent: &[u32])
+    requires { ⌜ Acceptable (now store) desk (sampleOf sample) symbol × (sample ≤ 1) × (now recent ≡ recentAt (now store) desk (sampleOf sample)) ⌝ }
+    ensures { λ _. ⌜ FedStore (now (store .entry)) (now (store .exit)) desk (sampleOf sample) symbol ⌝ }
+{
+    let many = store[USED] as usize;
+    let count = feed_records(&mut store[HEADER..], many, desk, sample, symbol, recent);
+    let start = FIRST_DESK + DESK_SIZE * desk as usize;
+    let i = sample as usize;
+    let size = start + (SIZE_FIRST + i);
+    let slots = start + (RECENT_FIRST + SLOTS * i);
+    note(store, count as u32, size, slots, symbol);
+}
+
+// The smaller of two numbers.
+fn fewer(a: u32, b: u32) -> u32
+    ensures { λ r. ⌜ r ≡ min a b ⌝ }
+{
+    if a < b {
+        return a;
+    }
+    b
+}
+
+// How many of the first `n` records are a desk's.
+fn held_by(numbers: &[u32], n: usize, desk: u32) -> usize
+    requires { ⌜ Removable desk n (now numbers) ⌝ }
+    ensures { λ r. ⌜ r ≡ length (keep (ofDesk desk) (records n (now (numbers .entry)))) ⌝ }
+{
+    let least = desk * DESK_SPAN;
+    let past = least + DESK_SPAN;
+    let first = place_of(numbers, n, least);
+    let next = place_of(numbers, n, past);
+    next - first
+}
+
+// The six recent symbols from a place on.
+fn six_from(store: &[u32], at: usize) -> [u32; 6]
+    requires { ⌜ at + deepest ≤ length (now store) ⌝ }
+    ensures { λ r. ⌜ r ≡ take deepest (drop at (now (store .entry))) ⌝ }
+{
+    [
+        store[at],
+        store[at + 1],
+        store[at + 2],
+        store[at + 3],
+        store[at + 4],
+        store[at + 5],
+    ]
+}
+
+// Notes a feed in the header: how many records there are, one more symbol in the sample, and the symbol first of the recent ones.
+fn note(store: &mut [u32], used: u32, size: usize, slots: usize, symbol: u32)
+    requires { ⌜ Places size slots (now store) × (getD (now store) size 0 < longest) ⌝ }
+    ensures { λ _. ⌜ now (store .exit) ≡ noted used size slots symbol (now (store .entry)) ⌝ }
+{
+    store[USED] = used;
+    store[size] = store[size] + 1;
+    let end = slots + SLOTS;
+    move_on(&mut store[slots..end], symbol);
+}
+
+// A symbol comes first of six, and the oldest goes.
+fn move_on(slots: &mut [u32], symbol: u32)
+    requires { ⌜ length (now slots) ≡ deepest ⌝ }
+    ensures { λ _. ⌜ now (slots .exit) ≡ shifted symbol (now (slots .entry)) ⌝ }
+{
+    slots[5] = slots[4];
+    slots[4] = slots[3];
+    slots[3] = slots[2];
+    slots[2] = slots[1];
+    slots[1] = slots[0];
+    slots[0] = symbol;
+}
