@@ -9,25 +9,27 @@ use borrow.Author.Tests.{lt-ltb}
 use lib.Dec.{T}
 use lib.ListN.{take, getD}
 use Rattle.numbers.specs.Limits.{mostSymbols, deepest, desks}
+use Rattle.numbers.specs.Every.{all}
 use Rattle.numbers.proofs.Tests.{T?, is-true, is-false}
 use Rattle.numbers.proofs.Orders.{less, same, more, order, eq→eqb}
+use Rattle.numbers.proofs.Every.{every-at, every-of, all-at, all-of}
 use Rattle.contexts.specs.Context.{isContext}
 use Rattle.contexts.specs.Keys.{keyOf, deskOf}
 use Rattle.contexts.specs.Sitting.{Sample}
 use Rattle.contexts.proofs.KeyOrder.{deskOf-key}
 use Rattle.contexts.proofs.Strings.{context-more}
 use Rattle.records.specs.Records.{keys, rises, lookup, blank}
+use Rattle.records.specs.Held.{keep, ofDesk}
+use Rattle.records.proofs.Keeping.{lookup-keep}
+use Rattle.records.proofs.Counting.{count-blank}
 use Rattle.replay.specs.Room.{Opening, opened, reserved}
 use Rattle.replay.specs.Table.{answered}
 use Rattle.replay.specs.Machine.{opening, atDesk, moved, shift}
-use Rattle.store.specs.Layout.{symbolsAt, depthAt, reserveAt, sizeAt, slotsAt, recordsIn, keep, ofDesk}
-use Rattle.store.specs.Sound.{all, below, deskOk, heldBy, recordOk, soundb}
+use Rattle.store.specs.Layout.{symbolsAt, depthAt, reserveAt, sizeAt, slotsAt, recordsIn}
+use Rattle.store.specs.Sound.{below, deskOk, heldBy, recordOk, soundb}
 use Rattle.store.specs.Plain.{Open}
 use Rattle.store.specs.Meaning.{progressAt, meaning}
-use Rattle.store.proofs.Many.{every-at, every-of, all-at, all-of}
-use Rattle.store.proofs.Rising.{blank-count}
 use Rattle.store.proofs.Desks.{stands-desk}
-use Rattle.store.proofs.Keeping.{keep-lookup}
 use Rattle.store.proofs.Passing.{passed, passes}
 use Rattle.store.proofs.Fitting.{desk-opened, desk-closed}
 use Rattle.rules.specs.Feed.{fresh}
@@ -69,8 +71,8 @@ module _ (s t : List ℕ) (d : ℕ) (o : Opening) (h : soundb s ≡ true) (n : O
         let within = context-more (symbolsAt t d) mostSymbols (depthAt t d) deepest c (omega (arith, limited o (g .ready .limits) .most, symbols-are)) (omega (arith, limited o (g .ready .limits) .deep, depth-is)) p in
         let own : T (ofDesk d (keyOf d c)) = eq→eqb (deskOf (keyOf d c)) d (deskOf-key d c within) in
         let found : lookup (keyOf d c) (recordsIn t) ≡ blank (keyOf d c) =
-        ap (lookup (keyOf d c)) (x .records-same) ∙ sym (keep-lookup (ofDesk d) (keyOf d c) (recordsIn s) own) ∙ ap (lookup (keyOf d c)) (none-there s d h n) in
-        rw (is-true (isContext (symbolsAt t d) (depthAt t d) c) p, found) (blank-count i (keyOf d c) a)
+        ap (lookup (keyOf d c)) (x .records-same) ∙ sym (lookup-keep (ofDesk d) (keyOf d c) (recordsIn s) (is-true _ own)) ∙ ap (lookup (keyOf d c)) (none-there s d h n) in
+        rw (is-true (isContext (symbolsAt t d) (depthAt t d) c) p, found) (count-blank i a (keyOf d c))
     | no q ↦ rw (is-false (isContext (symbolsAt t d) (depthAt t d) c) q)
   ]
 

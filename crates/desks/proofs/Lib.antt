@@ -1,5 +1,4 @@
 pub mod Reserving
-pub mod Bridge
 pub mod Others
 pub mod Shutting
 pub mod Granting

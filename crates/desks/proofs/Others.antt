@@ -6,29 +6,30 @@ use mathlib.Core.Path.{_≡_, refl, sym, ap, ap₂, subst, fun-ext, _∙_}
 use mathlib.Core.Logic.{_≢_}
 use mathlib.Core.Bool.{Bool, true, false, cond, _&&_}
 use mathlib.Core.List.{List}
-use borrow.Author.Tests.{eqb-true, eqb-false, le-ltb}
+use borrow.Author.Tests.{eqb-true, eqb-false, eq-eqb, le-ltb}
 use lib.Dec.{T, eqb, ltb}
 use lib.ListN.{length, drop, getD}
 use lib.Seq.{ext-getD, getD-take, getD-drop}
 use Rattle.numbers.specs.Limits.{mostSymbols, deepest, desks}
 use Rattle.numbers.specs.Sum.{sum}
 use Rattle.numbers.proofs.Tests.{T?, of-true}
-use Rattle.numbers.proofs.Orders.{Leb, le, gt, lebView, eq→eqb}
+use Rattle.numbers.proofs.Orders.{Leb, le, gt, lebView}
 use Rattle.contexts.specs.Keys.{deskOf, contextOf}
 use Rattle.contexts.specs.Sitting.{Sample, first, second, Progress}
 use Rattle.contexts.proofs.KeyOrder.{deskOf-key}
+use Rattle.contexts.proofs.Followed.{context-take}
+use Rattle.contexts.proofs.Digits.{contextOf-within}
 use Rattle.records.specs.Records.{key, lookup}
-use Rattle.records.proofs.Followed.{context-take}
+use Rattle.records.specs.Held.{keep, ofDesk}
+use Rattle.records.proofs.Keeping.{lookup-keep}
 use Rattle.replay.specs.Room.{Desk, Room, reserved, reservations}
 use Rattle.replay.specs.Machine.{put}
 use Rattle.replay.proofs.Desks.{put-sum}
-use Rattle.store.specs.Layout.{headerSize, deskStart, recentField, room, field, isOpen, sizeAt, slotsAt, recordsIn, totalOf, keep, ofDesk}
+use Rattle.store.specs.Layout.{headerSize, deskStart, recentField, room, field, isOpen, sizeAt, slotsAt, recordsIn, totalOf}
 use Rattle.store.specs.Sound.{deskOk, heldBy, reservedAt, keyOk, sampleOk, tableOk, parentKey, parentOk, recordOk, soundb}
 use Rattle.store.specs.Meaning.{deskAt, meaning}
 use Rattle.store.proofs.Many.{sample-cong}
-use Rattle.store.proofs.Digits.{contextOf-within}
 use Rattle.store.proofs.Desks.{desk-stands, stands-desk, desk-shut}
-use Rattle.store.proofs.Keeping.{keep-lookup}
 use Rattle.store.proofs.Climbing.{key-stands}
 use Rattle.store.proofs.Passing.{record-key}
 use Rattle.store.proofs.Standing.{slots-long}
@@ -136,8 +137,8 @@ module _ (s t : List ℕ) (d : ℕ) (x : Apart s t d) where
 
   lookup-same : (k : ℕ) → deskOf k ≢ d → lookup k (recordsIn t) ≡ lookup k (recordsIn s)
   lookup-same k n =
-      let own : T (ofDesk (deskOf k) k) = eq→eqb (deskOf k) (deskOf k) refl in
-      sym (keep-lookup (ofDesk (deskOf k)) k (recordsIn t) own) ∙ ap (lookup k) (x .kept (deskOf k) n) ∙ keep-lookup (ofDesk (deskOf k)) k (recordsIn s) own
+      let own = eq-eqb (deskOf k) (deskOf k) refl in
+      sym (lookup-keep (ofDesk (deskOf k)) k (recordsIn t) own) ∙ ap (lookup k) (x .kept (deskOf k) n) ∙ lookup-keep (ofDesk (deskOf k)) k (recordsIn s) own
 
   module _ (r : List ℕ) (n : deskOf (key r) ≢ d) (l : deskOf (key r) < desks) where
     same : (f : ℕ) → f < deskNumbers → field t (deskOf (key r)) f ≡ field s (deskOf (key r)) f

@@ -9,30 +9,30 @@ use borrow.Author.Tests.{le-leb, lt-leb, eq-eqb}
 use lib.Dec.{T, eqb}
 use lib.ListN.{length, getD}
 use Rattle.numbers.specs.Limits.{desks}
+use Rattle.numbers.specs.Every.{all}
 use Rattle.numbers.proofs.Tests.{left, right, of-true}
 use Rattle.numbers.proofs.Orders.{less, same, more, order}
+use Rattle.numbers.proofs.Every.{every-at, every-of, all-at, all-of}
 use Rattle.contexts.specs.Keys.{deskOf}
 use Rattle.records.specs.Records.{key, keys, rises}
-use Rattle.records.specs.Held.{without}
+use Rattle.records.specs.Held.{without, keep, ofDesk}
 use Rattle.records.proofs.Desks.{rising-without, length-without, other-without}
+use Rattle.records.proofs.Keeping.{keep-all}
 use Rattle.replay.specs.Room.{closed, reserved}
 use Rattle.replay.specs.Table.{refused, answered, verdictOf}
 use Rattle.replay.specs.Machine.{closing, atDesk, closingTable, tableAt, tableOf, answerAt, answerOf, verdict, moved, shift}
-use Rattle.store.specs.Layout.{used, isOpen, recordsIn, keep, ofDesk}
-use Rattle.store.specs.Sound.{all, deskOk, heldBy, recordOk, soundb}
+use Rattle.store.specs.Layout.{used, isOpen, recordsIn}
+use Rattle.store.specs.Sound.{deskOk, heldBy, recordOk, soundb}
 use Rattle.store.specs.Plain.{Open}
 use Rattle.store.specs.Meaning.{meaning}
-use Rattle.store.proofs.Many.{every-at, every-of, all-at, all-of}
 use Rattle.store.proofs.Parts.{records-length}
 use Rattle.store.proofs.Desks.{desk-shut}
-use Rattle.store.proofs.Keeping.{keep-all}
 use Rattle.store.proofs.Passing.{passed, passes}
 use Rattle.store.proofs.Fitting.{desk-opened, desk-closed}
 use Rattle.rules.specs.Rules.{done, rules}
 use Rattle.calls.specs.Promises.{Moves}
 use Rattle.calls.proofs.Settled.{moves-refused, moves-done}
 use Rattle.desks.specs.Changes.{Closed}
-use Rattle.desks.proofs.Bridge.{same-keep}
 use Rattle.desks.proofs.Others.{Apart, with, meaning-with, reserves-with, other-desk, other-record}
 
 -- ---- the table
@@ -55,7 +55,7 @@ module _ (s t : List ℕ) (d : ℕ) (h : soundb s ≡ true) (o : Open s d) (x : 
   apart = record {
     sound = h;
     beside = x .beside;
-    kept = λ e n. ap (keep (ofDesk e)) (x .records-left) ∙ same-keep (ofDesk e) (without d (recordsIn s)) ∙ other-without d e (recordsIn s) (λ q. n (sym q)) ∙ sym (same-keep (ofDesk e) (recordsIn s));
+    kept = λ e n. ap (keep (ofDesk e)) (x .records-left) ∙ other-without d e (recordsIn s) (λ q. n (sym q));
   }
 
   shut : Open t d → ⊥
@@ -71,7 +71,7 @@ module _ (s t : List ℕ) (d : ℕ) (h : soundb s ≡ true) (o : Open s d) (x : 
   each-record =
       let other : ℕ → Bool = λ k. not (ofDesk d k) in
       let test : List ℕ → Bool = λ r. recordOk s (recordsIn s) r && other (key r) in
-      let left-are : keep other (recordsIn s) ≡ recordsIn t = same-keep other (recordsIn s) ∙ sym (x .records-left) in
+      let left-are : keep other (recordsIn s) ≡ recordsIn t = sym (x .records-left) in
       let tests = subst (λ (rs : List (List ℕ)). T (all test rs)) left-are (keep-all other (recordOk s (recordsIn s)) (recordsIn s) (passed s h .each)) in
       all-of (recordOk t (recordsIn t)) (recordsIn t) [] (λ j l. one (getD (recordsIn t) j []) (all-at test (recordsIn t) j [] tests l))
     where

@@ -7,18 +7,20 @@ use mathlib.Core.Bool.{true, _&&_}
 use mathlib.Core.List.{List, [], _∷_}
 use lib.Dec.{T, eqb→eq}
 use Rattle.numbers.specs.Limits.{desks}
+use Rattle.numbers.specs.Every.{all}
 use Rattle.numbers.proofs.Tests.{left, right}
+use Rattle.numbers.proofs.Every.{all-at}
 use Rattle.contexts.specs.Keys.{deskOf}
 use Rattle.records.specs.Records.{key}
+use Rattle.records.specs.Held.{keep, ofDesk}
+use Rattle.records.proofs.Keeping.{keep-all}
 use Rattle.replay.specs.Room.{Opening, closed}
 use Rattle.replay.specs.Table.{refused}
 use Rattle.replay.specs.Machine.{opening, atDesk, verdict}
-use Rattle.store.specs.Layout.{room, isOpen, recordsIn, keep, ofDesk}
-use Rattle.store.specs.Sound.{all, recordOk, soundb}
+use Rattle.store.specs.Layout.{room, isOpen, recordsIn}
+use Rattle.store.specs.Sound.{recordOk, soundb}
 use Rattle.store.specs.Plain.{Open}
 use Rattle.store.specs.Meaning.{openingAt, progressAt, meaning}
-use Rattle.store.proofs.Many.{all-at}
-use Rattle.store.proofs.Keeping.{keep-all}
 use Rattle.store.proofs.Climbing.{key-stands}
 use Rattle.store.proofs.Passing.{passed, record-key}
 use Rattle.store.proofs.Fitting.{desk-opened, desk-closed}

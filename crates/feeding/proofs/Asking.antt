@@ -12,7 +12,7 @@ use Rattle.numbers.proofs.Sums.{sum-part}
 use Rattle.contexts.specs.Keys.{keyOf, deskSpan}
 use Rattle.contexts.specs.Sitting.{Sample, sampleOf}
 use Rattle.contexts.proofs.Strings.{context-length}
-use Rattle.records.specs.Records.{width, records, key, keys, countsOf, lookup}
+use Rattle.records.specs.Records.{width, records, key, keys, countsOf, lookup, countOf}
 use Rattle.records.specs.Held.{rank, keep, ofDesk, without, Standing, Removable}
 use Rattle.records.specs.Fed.{missing, Askable, Feedable}
 use Rattle.records.proofs.Parts.{length-parts}
@@ -22,13 +22,12 @@ use Rattle.records.proofs.Counting.{count-blank}
 use Rattle.records.proofs.Growing.{missing-le}
 use Rattle.records.proofs.Lent.{tail-lent}
 use Rattle.records.proofs.Desks.{length-without, without-cut}
-use Rattle.store.specs.Layout.{headerSize, room, used, symbolsAt, sizeAt, recordsIn, countIn, totalOf}
+use Rattle.store.specs.Layout.{headerSize, room, used, symbolsAt, sizeAt, recordsIn, totalOf}
 use Rattle.store.specs.Sound.{soundb, heldBy}
 use Rattle.store.specs.Plain.{Open, recordFor, recordAt}
 use Rattle.store.proofs.Parts.{records-length}
 use Rattle.store.proofs.Standing.{sound-stands}
 use Rattle.feeding.specs.FedStore.{Acceptable, recentAt}
-use Rattle.feeding.proofs.Bridge.{keep-same}
 use Rattle.feeding.proofs.Recent.{recent-within}
 use Rattle.feeding.proofs.Before.{rising, standing}
 use Rattle.feeding.proofs.Filling.{room-missing}
@@ -44,7 +43,7 @@ count-small s h i a k l =
     let g = sound-stands s h in
     let c = g .each-counts n (omega (arith, records-length s)) in
     let own : recordFor s (c .desk) (c .context) ≡ recordAt s n = ap (λ (x : ℕ). lookup x (recordsIn s)) (sym (c .under-key)) ∙ lookup-place 0 n (recordsIn s) (rising s h) m in
-    let part : countIn i (recordAt s n) a ≤ totalOf i (recordAt s n) = sum-part mostSymbols (countIn i (recordAt s n)) a l in
+    let part : countOf i (recordAt s n) a ≤ totalOf i (recordAt s n) = sum-part mostSymbols (countOf i (recordAt s n)) a l in
     omega (arith, ap (totalOf i) own, g .totals (c .desk) (c .at-open) (c .context) (c .is-context) i, g .lengths (c .desk) (c .at-open) i))
 
 pub feedable : (s : List ℕ) (d k a : ℕ) → k ≤ 1 → Acceptable s d (sampleOf k) a → Feedable d k a (recentAt s d (sampleOf k)) (used s) (drop headerSize s)
@@ -102,6 +101,6 @@ module _ (s : List ℕ) (h : soundb s ≡ true) (d : ℕ) (r : List ℕ) (q : As
     pub then-is : x + y ≡ heldBy d (recordsIn s) + missing d r (recordsIn s)
     unfolding recordsIn
     then-is =
-        let held-there : x ≡ heldBy d (records (used s) (drop headerSize s)) = e ∙ rw (tail-lent headerSize s) (ap length (sym (keep-same (ofDesk d) (records (used s) (drop headerSize s))))) in
+        let held-there : x ≡ heldBy d (records (used s) (drop headerSize s)) = e ∙ rw (tail-lent headerSize s) in
         let missing-there : y ≡ missing d r (records (used s) (drop headerSize s)) = f ∙ rw (tail-lent headerSize s) in
         ap₂ _+_ held-there missing-there

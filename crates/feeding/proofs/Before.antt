@@ -13,6 +13,7 @@ use Rattle.records.specs.Records.{width, records, key, lookup}
 use Rattle.records.specs.Held.{held, Rising, Wide, Standing}
 use Rattle.records.proofs.Parts.{wide-records}
 use Rattle.records.proofs.Finding.{Place, held-place, lookup-place, lookup-absent}
+use Rattle.records.proofs.Counting.{total-blank}
 use Rattle.store.specs.Layout.{headerSize, used, recordsIn, totalOf}
 use Rattle.store.specs.Sound.{soundb}
 use Rattle.store.specs.Plain.{Open, ContextAt, recordFor, totalAt, recordAt, Sound}
@@ -20,7 +21,6 @@ use Rattle.store.specs.Meaning.{sittingAt}
 use Rattle.store.proofs.Parts.{records-length}
 use Rattle.store.proofs.Passing.{passed}
 use Rattle.store.proofs.Standing.{sound-stands}
-use Rattle.store.proofs.Rising.{blank-total}
 use Rattle.store.proofs.Holding.{total-context}
 
 module _ (s : List ℕ) (h : soundb s ≡ true) where
@@ -50,7 +50,7 @@ module _ (s : List ℕ) (h : soundb s ≡ true) where
       rw r (stands .each-counts (p .place) inside .seen)
 
   pub absent-total : (i : Sample) (k : ℕ) → held k (recordsIn s) ≡ false → totalOf i (lookup k (recordsIn s)) ≡ 0
-  absent-total i k e = ap (totalOf i) (lookup-absent k (recordsIn s) e) ∙ blank-total i k
+  absent-total i k e = ap (totalOf i) (lookup-absent k (recordsIn s) e) ∙ total-blank i k
 
   -- a context is held where a record has its key
   pub held-is : (d : ℕ) → Open s d → (c : List ℕ) → ContextAt s d c → isHeld (sittingAt s d) c ≡ held (keyOf d c) (recordsIn s)

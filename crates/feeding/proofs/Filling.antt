@@ -28,7 +28,6 @@ use Rattle.store.proofs.Parts.{records-length}
 use Rattle.store.proofs.Fitting.{open?}
 use Rattle.store.proofs.Standing.{sound-stands}
 use Rattle.feeding.specs.FedStore.{Acceptable, recentAt}
-use Rattle.feeding.proofs.Bridge.{keep-same}
 use Rattle.feeding.proofs.Recent.{recent-within}
 use Rattle.feeding.proofs.Before.{rising}
 use Rattle.feeding.proofs.Owning.{Owned, owned-fed, owned-desk}
@@ -46,19 +45,15 @@ module _ (s : List ℕ) (d : ℕ) (i : Sample) (a : ℕ) (p : Acceptable s d i a
 
   pub held-within : (e : ℕ) → Open s e → heldBy e fedRecords ≤ reserveAt s e
   held-within e o =
-      rw (keep-same (ofDesk e) fedRecords)
-      (elim (same? e d) [
-        | yes q ↦
-            let g = desk-length-fed d i a (recentAt s d i) cr (recordsIn s) (rising s (p .sound)) in
-            rw (q, g, ← keep-same (ofDesk d) (recordsIn s)) (p .reserved)
-        | no q ↦
-            rw (other-fed d i a (recentAt s d i) cr e (recordsIn s) (λ z. q (sym z)), ← keep-same (ofDesk e) (recordsIn s)) (sound-stands s (p .sound) .reserved-held e o)
-      ])
+      elim (same? e d) [
+        | yes q ↦ rw (q, desk-length-fed d i a (recentAt s d i) cr (recordsIn s) (rising s (p .sound))) (p .reserved)
+        | no q ↦ rw (other-fed d i a (recentAt s d i) cr e (recordsIn s) (λ z. q (sym z))) (sound-stands s (p .sound) .reserved-held e o)
+      ]
 
   -- a desk's records are within its reservation, which is none where it is not open
   desk-within : (e : ℕ) → e < desks → length (keep (ofDesk e) fedRecords) ≤ reservedAt s e
   desk-within e l = elim (open? s e) [
-    | yes o ↦ rw (is-true (isOpen s e) (o .opened)) (let g = held-within e o in rw (keep-same (ofDesk e) fedRecords) at g)
+    | yes o ↦ rw (is-true (isOpen s e) (o .opened)) (held-within e o)
     | no n ↦ elim (order 0 (length (keep (ofDesk e) fedRecords))) [
       | less m ↦ absurd (n (stranger m))
       | same q ↦ omega arith

@@ -1,4 +1,3 @@
-pub mod Bridge
 pub mod Recent
 pub mod Before
 pub mod Counted

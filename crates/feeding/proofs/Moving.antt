@@ -15,12 +15,13 @@ use Rattle.numbers.proofs.Orders.{less, same, more, order}
 use Rattle.contexts.specs.Context.{isContext, begins}
 use Rattle.contexts.specs.Sitting.{Sample, first, second, sampleOf, sameSample, Progress}
 use Rattle.contexts.proofs.Strings.{begins→take}
+use Rattle.contexts.proofs.Followed.{context-take}
 use Rattle.records.specs.Held.{keep, ofDesk}
-use Rattle.records.proofs.Followed.{context-take}
+use Rattle.records.specs.Records.{countOf}
 use Rattle.records.proofs.Growing.{other-fed}
 use Rattle.replay.specs.Room.{Opening, Desk, closed, opened, Room}
 use Rattle.replay.specs.Machine.{asking, atDesk, put, moved, shift}
-use Rattle.store.specs.Layout.{headerSize, symbolsAt, depthAt, sizeAt, slotsAt, recordsIn, countIn}
+use Rattle.store.specs.Layout.{headerSize, symbolsAt, depthAt, sizeAt, slotsAt, recordsIn}
 use Rattle.store.specs.Sound.{soundb}
 use Rattle.store.specs.Plain.{Open, ContextAt, recordFor}
 use Rattle.store.specs.Meaning.{openingAt, progressAt, deskAt, meaning}
@@ -30,7 +31,6 @@ use Rattle.store.proofs.Local.{SameDesk, desk-stays}
 use Rattle.rules.specs.Feed as rule
 use Rattle.rules.specs.Rules.{feed, nextOf, rules}
 use Rattle.feeding.specs.FedStore.{FedStore, Acceptable, recentAt, shifted}
-use Rattle.feeding.proofs.Bridge.{keep-same}
 use Rattle.feeding.proofs.Recent.{recent-context, recent-within, within, recent-shifted}
 use Rattle.feeding.proofs.Counted.{same-sym}
 use Rattle.feeding.proofs.Header.{same?, open-before, open-after, context-same}
@@ -77,8 +77,8 @@ module _ (s t : List ℕ) (d : ℕ) (i : Sample) (a : ℕ) (f : FedStore s t d i
       none true = refl
       none false = refl
 
-      go : Dec (ContextAt s d c) → cond (isContext (symbolsAt s d) (depthAt s d) c) (countIn j (recordFor t d c) b) 0
-          ≡ cond (isContext (symbolsAt s d) (depthAt s d) c) (countIn j (recordFor s d c) b) 0 + one (sameSample j i && (true && (begins c (recentAt s d i) && eqb a b)))
+      go : Dec (ContextAt s d c) → cond (isContext (symbolsAt s d) (depthAt s d) c) (countOf j (recordFor t d c) b) 0
+          ≡ cond (isContext (symbolsAt s d) (depthAt s d) c) (countOf j (recordFor s d c) b) 0 + one (sameSample j i && (true && (begins c (recentAt s d i) && eqb a b)))
       go (yes x) =
           let g = count-after s t d i a f p d c (within s (p .sound) d (p .at-open) c x) j b in
           rw (is-true (isContext (symbolsAt s d) (depthAt s d) c) x, g, eq-eqb d d refl, same-sym i j)
@@ -99,10 +99,8 @@ module _ (s t : List ℕ) (d : ℕ) (i : Sample) (a : ℕ) (f : FedStore s t d i
         long-before = omega (arith, sound-stands s (p .sound) .long);
         long-after = omega (arith, sound-stands s (p .sound) .long, f .length-same);
         fields = λ n m. sym (f .others-same e n l q m);
-        kept = keep-same (ofDesk e) (recordsIn s)
-            ∙ sym (other-fed d i a (recentAt s d i) (recent-within s (p .sound) d (p .at-open) i) e (recordsIn s) (λ z. q (sym z)))
-            ∙ ap (keep (ofDesk e)) (sym (f .records-fed))
-            ∙ sym (keep-same (ofDesk e) (recordsIn t));
+        kept = sym (other-fed d i a (recentAt s d i) (recent-within s (p .sound) d (p .at-open) i) e (recordsIn s) (λ z. q (sym z)))
+            ∙ ap (keep (ofDesk e)) (sym (f .records-fed));
       }))
 
   elsewhere : (e : ℕ) → e ≢ d → deskAt t e ≡ deskAt s e

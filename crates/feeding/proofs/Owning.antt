@@ -9,9 +9,9 @@ use lib.ListN.{length, take}
 use Rattle.contexts.specs.Keys.{keyOf, deskOf}
 use Rattle.contexts.specs.Sitting.{Sample}
 use Rattle.contexts.proofs.KeyOrder.{deskOf-key}
+use Rattle.contexts.proofs.Followed.{context-take}
 use Rattle.records.specs.Held.{held}
 use Rattle.records.specs.Fed.{fed}
-use Rattle.records.proofs.Followed.{context-take}
 use Rattle.records.proofs.Finding.{held-place}
 use Rattle.records.proofs.Growing.{Origin, before, followed, origin}
 use Rattle.store.specs.Layout.{used, symbolsAt, depthAt, recordsIn}

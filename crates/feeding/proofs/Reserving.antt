@@ -29,10 +29,8 @@ use Rattle.store.specs.Plain.{Open, ContextAt}
 use Rattle.store.specs.Meaning.{openingAt, progressAt, sittingAt}
 use Rattle.store.proofs.Passing.{passed, desk-passed}
 use Rattle.store.proofs.Totalling.{total-keys}
-use Rattle.store.proofs.Keeping.{hasKey}
 use Rattle.rules.specs.Feed as rule
 use Rattle.feeding.specs.FedStore.{recentAt}
-use Rattle.feeding.proofs.Bridge.{keep-same, has-held}
 use Rattle.feeding.proofs.Recent.{recent-within, within}
 use Rattle.feeding.proofs.Before.{rising, held-is}
 use Rattle.feeding.proofs.Owning.{Owned, owned-fed, owned-desk}
@@ -72,12 +70,11 @@ module _ (s : List ℕ) (h : soundb s ≡ true) (d : ℕ) (o : Open s d) (i : Sa
   own-key : (c : List ℕ) → ContextAt s d c → ofDesk d (keyOf d c) ≡ true
   own-key c x = eq-eqb (deskOf (keyOf d c)) d (deskOf-key d c (within s h d o c x))
 
-  held-records-after : (c : List ℕ) → ContextAt s d c → isHeld after c ≡ hasKey (keyOf d c) (keep (ofDesk d) fedRecords)
+  held-records-after : (c : List ℕ) → ContextAt s d c → isHeld after c ≡ held (keyOf d c) (keep (ofDesk d) fedRecords)
   held-records-after c x =
       held-after c
       ∙ rw (
         held-is s h d o c x,
-        has-held (keyOf d c) (keep (ofDesk d) fedRecords),
         held-keep (ofDesk d) (keyOf d c) fedRecords,
         own-key c x,
         held-fed d (recentAt s d i) (recent-within s h d o i) d c (within s h d o c x) i a (recordsIn s),
@@ -101,4 +98,3 @@ module _ (s : List ℕ) (h : soundb s ≡ true) (d : ℕ) (o : Open s d) (i : Sa
       total-within (symbolsAt s d) (depthAt s d) (λ c x. ap one (held-records-after c x))
       ∙ total-keys (symbolsAt s d) (depthAt s d) d (g .most) (g .depth) 0 (keep (ofDesk d) fedRecords) up own-context
       ∙ desk-length-fed d i a (recentAt s d i) (recent-within s h d o i) (recordsIn s) (rising s h)
-      ∙ ap (λ (x : List (List ℕ)). length x + missing d (recentAt s d i) (recordsIn s)) (sym (keep-same (ofDesk d) (recordsIn s)))

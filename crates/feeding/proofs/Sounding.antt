@@ -15,15 +15,15 @@ use Rattle.contexts.specs.Keys.{keyOf}
 use Rattle.contexts.specs.Sitting.{Sample, first, second, sameSample}
 use Rattle.contexts.proofs.Strings.{begins→take}
 use Rattle.contexts.proofs.KeyOrder.{Within}
-use Rattle.records.specs.Records.{key, lookup}
+use Rattle.contexts.proofs.Followed.{context-take}
+use Rattle.records.specs.Records.{key, lookup, countOf}
 use Rattle.records.specs.Held.{held}
-use Rattle.records.proofs.Followed.{context-take}
 use Rattle.records.proofs.Finding.{place-held, lookup-place}
-use Rattle.store.specs.Layout.{used, symbolsAt, depthAt, sizeAt, recordsIn, countIn, totalOf}
+use Rattle.records.proofs.Rising.{rises-apart}
+use Rattle.store.specs.Layout.{used, symbolsAt, depthAt, sizeAt, recordsIn, totalOf}
 use Rattle.store.specs.Sound.{soundb}
 use Rattle.store.specs.Plain.{Open, ContextAt, Counts, recordFor, totalAt, recordAt, Sound}
 use Rattle.store.proofs.Parts.{records-length}
-use Rattle.store.proofs.Rising.{rises-apart}
 use Rattle.store.proofs.Standing.{sound-stands}
 use Rattle.store.proofs.Converse.{stands-sound}
 use Rattle.feeding.specs.FedStore.{FedStore, Acceptable, recentAt}
@@ -69,7 +69,7 @@ module _ (s t : List ℕ) (d : ℕ) (i : Sample) (a : ℕ) (f : FedStore s t d i
   context-within e o c x = within s (p .sound) e (before e o) c (context-before e o c x)
 
   -- "no count above 0 stands at a symbol from A up"
-  below-after : (e : ℕ) → Open t e → (c : List ℕ) → ContextAt t e c → (j : Sample) (b : ℕ) → symbolsAt t e ≤ b → countIn j (recordFor t e c) b ≡ 0
+  below-after : (e : ℕ) → Open t e → (c : List ℕ) → ContextAt t e c → (j : Sample) (b : ℕ) → symbolsAt t e ≤ b → countOf j (recordFor t e c) b ≡ 0
   below-after e o c x j b l =
       let A = limit-same s t d i a f e 1 (o .desk) (omega arith) in
       let z = stands .counts-below e (before e o) c (context-before e o c x) j b (omega arith) in

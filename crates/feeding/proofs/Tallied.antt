@@ -17,7 +17,7 @@ use Rattle.contexts.specs.Context.{begins}
 use Rattle.contexts.specs.Keys.{keyOf, deskOf}
 use Rattle.contexts.specs.Sitting.{Sample, first, second, sameSample}
 use Rattle.contexts.proofs.KeyOrder.{Within}
-use Rattle.records.specs.Records.{key, lookup}
+use Rattle.records.specs.Records.{key, lookup, countOf}
 use Rattle.records.specs.Held.{held, keep, ofDesk, Rising}
 use Rattle.records.specs.Fed.{fed, missing}
 use Rattle.records.proofs.Keeping.{held-keep}
@@ -25,7 +25,7 @@ use Rattle.records.proofs.Finding.{place-held}
 use Rattle.records.proofs.Feeding.{count-fed, held-fed, rising-fed}
 use Rattle.records.proofs.Growing.{desk-length-fed, other-fed}
 use Rattle.records.proofs.Desks.{length-desks}
-use Rattle.store.specs.Layout.{room, used, isOpen, symbolsAt, reserveAt, recordsIn, countIn, totalOf}
+use Rattle.store.specs.Layout.{room, used, isOpen, symbolsAt, reserveAt, recordsIn, totalOf}
 use Rattle.store.specs.Sound.{heldBy, reservedAt}
 use Rattle.store.specs.Plain.{Open, ContextAt, recordFor, totalAt, Sound}
 use Rattle.store.proofs.Parts.{records-length}
@@ -33,7 +33,6 @@ use Rattle.store.proofs.Passing.{passed, desk-passed}
 use Rattle.store.proofs.Fitting.{open?}
 use Rattle.store.proofs.Standing.{sound-stands}
 use Rattle.feeding.specs.FedStore.{FedStore, Acceptable, recentAt}
-use Rattle.feeding.proofs.Bridge.{keep-same}
 use Rattle.feeding.proofs.Recent.{recent-within, within}
 use Rattle.feeding.proofs.Before.{rising, wide, held-seen}
 use Rattle.feeding.proofs.Counted.{total-fed}
@@ -56,9 +55,9 @@ module _ (s t : List ℕ) (d : ℕ) (i : Sample) (a : ℕ) (f : FedStore s t d i
   -- ---- counts and totals
 
   pub count-after : (e : ℕ) (c : List ℕ) → Within c → (j : Sample) (b : ℕ)
-      → countIn j (recordFor t e c) b ≡ countIn j (recordFor s e c) b + one (eqb d e && (sameSample i j && (begins c (recentAt s d i) && eqb a b)))
+      → countOf j (recordFor t e c) b ≡ countOf j (recordFor s e c) b + one (eqb d e && (sameSample i j && (begins c (recentAt s d i) && eqb a b)))
   count-after e c x j b =
-      ap (λ (rs : List (List ℕ)). countIn j (lookup (keyOf e c) rs) b) (f .records-fed)
+      ap (λ (rs : List (List ℕ)). countOf j (lookup (keyOf e c) rs) b) (f .records-fed)
       ∙ count-fed d (recentAt s d i) cr e c x i a j b (recordsIn s) small (wide s (p .sound)) (rising s (p .sound))
 
   pub total-after : (e : ℕ) (c : List ℕ) → Within c → (j : Sample)
