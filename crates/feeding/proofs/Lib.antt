@@ -18,3 +18,4 @@ pub mod Writing
 pub mod Answering
 pub mod Refusing
 pub mod Running
+pub mod Settled

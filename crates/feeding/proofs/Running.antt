@@ -33,6 +33,9 @@ room-made : (s : List ℕ) → meaning s .made ≡ room s
 unfolding meaning
 room-made s = refl
 
+pub room-moved : (x y : List ℕ) (d k a : ℕ) (o : Outcome Answer) → soundb x ≡ true → Moves x (feeding d k a) o y → room y ≡ room x
+room-moved x y d k a o h m = sym (room-made y) ∙ ap (λ (ρ : Room Progress). ρ .made) (m .moves h) ∙ move-made (meaning x) d k a ∙ room-made x
+
 -- ---- a run with n accepted feeds before it
 unfoldable pub ahead : ℕ → Run → Run
 ahead n r = record { accepted = n + r .accepted; ending = r .ending; room = r .room }
@@ -68,7 +71,7 @@ module _ (s : List ℕ) (d k : ℕ) (symbols : List ℕ) where
     ran-on y l m =
         let accepts : answered done ≡ verdict rules (meaning x) (feeding d k (getD symbols n 0)) = m .answers (r .sound) in
         let moved : meaning y ≡ move rules (meaning x) (feeding d k (getD symbols n 0)) = m .moves (r .sound) in
-        let same : room y ≡ room x = sym (room-made y) ∙ ap (λ (ρ : Room Progress). ρ .made) moved ∙ move-made (meaning x) d k (getD symbols n 0) ∙ room-made x in
+        let same = room-moved x y d k (getD symbols n 0) (answered done) (r .sound) m in
         let then = fedRun d k (drop (suc n) symbols) (meaning y) in
         let one-more : fedRun d k (drop n symbols) (meaning x) ≡ record { accepted = suc (then .accepted); ending = then .ending; room = then .room } = next l ∙ rw (← accepts, ← moved) in
         record {
