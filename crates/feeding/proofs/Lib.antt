@@ -11,6 +11,7 @@ pub mod Sounding
 pub mod Moving
 pub mod Judging
 pub mod Sets
+pub mod Numbering
 pub mod Noting
 pub mod Placing
 pub mod Asking

@@ -1,8 +1,8 @@
 -- A run of feeds half way: what is left of it decides how it ends. Assumes nothing.
-use mathlib.Core.Path.{_≡_, refl, sym, ap, ap₂, _∙_, subst}
-use mathlib.Core.Bool.{Bool, true, false}
-use mathlib.Core.List.{List, [], _∷_}
-use Prim.Native.Nat.{ℕ, zero, suc, _+_, _≤_, _<_}
+use mathlib.Core.Path.{_≡_, refl, sym, ap, _∙_, subst}
+use mathlib.Core.Bool.{true, false}
+use mathlib.Core.List.{List}
+use Prim.Native.Nat.{ℕ, suc, _+_, _≤_, _<_}
 use native.Mathlib.Omega.{arith}
 use native.Mathlib.Numerals.{add-one}
 use lib.ListN.{length, drop, getD, drop-of-length-le}
@@ -10,7 +10,7 @@ use lib.Seq.{drop-cons}
 use Rattle.contexts.specs.Sitting.{Progress}
 use Rattle.replay.specs.Room.{Room}
 use Rattle.replay.specs.Table.{Outcome, refused, answered}
-use Rattle.replay.specs.Machine.{Call, verdict, move, shift, settle, atDesk, roomQuestion}
+use Rattle.replay.specs.Machine.{verdict, move, shift, settle}
 use Rattle.store.specs.Layout.{storeSize, room}
 use Rattle.store.specs.Sound.{soundb}
 use Rattle.store.specs.Meaning.{meaning}
