@@ -1,5 +1,5 @@
 -- Refusal 10 or the feed, as the code has them. Assumes nothing.
-use mathlib.Core.Path.{_≡_, refl, sym, ap, ap₂, _∙_, subst}
+use mathlib.Core.Path.{_≡_, refl, ap, ap₂, _∙_}
 use mathlib.Core.Bool.{true}
 use mathlib.Core.List.{List}
 use Prim.Native.Nat.{ℕ, min, _+_, _*_, _≤_, _<_}
@@ -10,7 +10,7 @@ use Rattle.contexts.specs.Sitting.{sampleOf}
 use Rattle.records.specs.Fed.{missing, Askable}
 use Rattle.replay.specs.Table.{refused, answered}
 use Rattle.replay.specs.Machine.{asking, atDesk}
-use Rattle.store.specs.Layout.{headerSize, used, deskStart, field, sizeField, recentField, depthAt, reserveAt, sizeAt, slotsAt, recordsIn}
+use Rattle.store.specs.Layout.{headerSize, used, deskStart, field, depthAt, reserveAt, sizeAt, slotsAt, recordsIn}
 use Rattle.store.specs.Sound.{soundb, heldBy}
 use Rattle.store.proofs.Standing.{sound-stands, slots-long}
 use Rattle.rules.specs.Rules.{feed, done}
@@ -21,7 +21,7 @@ use Rattle.feeding.proofs.Sounding.{fed-sound}
 use Rattle.feeding.proofs.Moving.{fed-meaning}
 use Rattle.feeding.proofs.Judging.{past-reservation, accepted}
 use Rattle.feeding.proofs.Asking.{askable}
-use Rattle.feeding.proofs.Writing.{size-number, recent-number}
+use Rattle.feeding.proofs.Numbering.{size-number, recent-number}
 
 -- the recent symbols as they were copied
 pub record Copied (s : List ℕ) (d k many : ℕ) (slots : List ℕ) : Type 0 where

@@ -1,18 +1,18 @@
 -- What a sound store's records meet of what their functions ask, and how a desk's records are counted. Assumes nothing.
-use mathlib.Core.Path.{_≡_, refl, sym, ap, ap₂, _∙_, subst}
+use mathlib.Core.Path.{_≡_, sym, ap, ap₂, _∙_}
 use mathlib.Core.Bool.{true}
-use mathlib.Core.List.{List, [], _++_}
+use mathlib.Core.List.{List, _++_}
 use Prim.Native.Nat.{ℕ, _+_, _-_, _*_, _≤_, _<_}
 use native.Mathlib.Nat.{mul-le-mul-left}
 use native.Mathlib.Omega.{arith}
 use lib.ListN.{length, take, drop, getD, length-append, length-drop}
 use lib.Seq.{length-take-le}
-use Rattle.numbers.specs.Limits.{mostSymbols, deepest, longest, desks, mostRoom}
+use Rattle.numbers.specs.Limits.{mostSymbols, deepest, longest, mostRoom}
 use Rattle.numbers.proofs.Sums.{sum-part}
-use Rattle.contexts.specs.Keys.{keyOf, deskSpan}
+use Rattle.contexts.specs.Keys.{deskSpan}
 use Rattle.contexts.specs.Sitting.{Sample, sampleOf}
 use Rattle.contexts.proofs.Strings.{context-length}
-use Rattle.records.specs.Records.{width, records, key, keys, countsOf, lookup, countOf}
+use Rattle.records.specs.Records.{width, records, keys, countsOf, lookup, countOf}
 use Rattle.records.specs.Held.{rank, keep, ofDesk, without, Standing, Removable}
 use Rattle.records.specs.Fed.{missing, Askable, Feedable}
 use Rattle.records.proofs.Parts.{length-parts}
@@ -22,7 +22,7 @@ use Rattle.records.proofs.Counting.{count-blank}
 use Rattle.records.proofs.Growing.{missing-le}
 use Rattle.records.proofs.Lent.{tail-lent}
 use Rattle.records.proofs.Desks.{length-without, without-cut}
-use Rattle.store.specs.Layout.{headerSize, room, used, symbolsAt, sizeAt, recordsIn, totalOf}
+use Rattle.store.specs.Layout.{headerSize, room, used, recordsIn, totalOf}
 use Rattle.store.specs.Sound.{soundb, heldBy}
 use Rattle.store.specs.Plain.{Open, recordFor, recordAt}
 use Rattle.store.proofs.Parts.{records-length}

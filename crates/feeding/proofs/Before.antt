@@ -1,22 +1,22 @@
 -- The records of a sound store, as a feed finds them. Assumes nothing.
-use mathlib.Core.Path.{_≡_, refl, sym, ap, ap₂, _∙_, subst}
-use mathlib.Core.Bool.{Bool, true, false}
-use mathlib.Core.List.{List, []}
+use mathlib.Core.Path.{_≡_, sym, ap, ap₂, _∙_}
+use mathlib.Core.Bool.{true, false}
+use mathlib.Core.List.{List}
 use Prim.Native.Nat.{ℕ, _+_, _*_, _≤_, _<_}
 use native.Mathlib.Omega.{arith}
 use lib.Dec.{T, ltb, ltb→lt, lt→ltb}
-use lib.ListN.{length, drop, getD, length-drop}
+use lib.ListN.{length, drop, length-drop}
 use Rattle.numbers.proofs.Tests.{T?, bool-ext, is-false}
 use Rattle.contexts.specs.Keys.{keyOf}
 use Rattle.contexts.specs.Sitting.{Sample, first, second, isHeld}
-use Rattle.records.specs.Records.{width, records, key, lookup}
+use Rattle.records.specs.Records.{width, lookup}
 use Rattle.records.specs.Held.{held, Rising, Wide, Standing}
 use Rattle.records.proofs.Parts.{wide-records}
-use Rattle.records.proofs.Finding.{Place, held-place, lookup-place, lookup-absent}
+use Rattle.records.proofs.Finding.{held-place, lookup-place, lookup-absent}
 use Rattle.records.proofs.Counting.{total-blank}
 use Rattle.store.specs.Layout.{headerSize, used, recordsIn, totalOf}
 use Rattle.store.specs.Sound.{soundb}
-use Rattle.store.specs.Plain.{Open, ContextAt, recordFor, totalAt, recordAt, Sound}
+use Rattle.store.specs.Plain.{Open, ContextAt, totalAt, recordAt, Sound}
 use Rattle.store.specs.Meaning.{sittingAt}
 use Rattle.store.proofs.Parts.{records-length}
 use Rattle.store.proofs.Passing.{passed}

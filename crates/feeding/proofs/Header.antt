@@ -2,12 +2,12 @@
 use mathlib.Core.Path.{_≡_, refl, sym, ap, ap₂, _∙_, subst}
 use mathlib.Core.Logic.{_≢_}
 use mathlib.Core.Bool.{Bool, true, false, cond, _&&_}
-use mathlib.Core.List.{List, [], _∷_}
+use mathlib.Core.List.{List}
 use Prim.Native.Nat.{ℕ, zero, suc, _+_, _≤_, _<_}
 use native.Mathlib.Omega.{arith}
 use borrow.Author.Tests.{eq-eqb, ne-eqb}
 use lib.Dec.{T, eqb}
-use lib.ListN.{length, take, drop, getD}
+use lib.ListN.{drop, getD}
 use lib.Seq.{getD-take, getD-drop}
 use Rattle.numbers.specs.Limits.{deepest, longest, desks}
 use Rattle.numbers.specs.Sum.{one, sum}
@@ -15,9 +15,9 @@ use Rattle.numbers.proofs.Orders.{less, same, more, order}
 use Rattle.numbers.proofs.Sums.{sum-cong}
 use Rattle.contexts.specs.Context.{isContext}
 use Rattle.contexts.specs.Sitting.{Sample, first, second, sameSample}
-use Rattle.store.specs.Layout.{deskStart, field, isOpen, symbolsAt, depthAt, reserveAt, recentField, sizeAt, slotsAt}
+use Rattle.store.specs.Layout.{deskStart, field, symbolsAt, depthAt, recentField, sizeAt, slotsAt}
 use Rattle.store.specs.Sound.{reservedAt}
-use Rattle.store.specs.Plain.{Open, ContextAt}
+use Rattle.store.specs.Plain.{Open}
 use Rattle.store.proofs.Standing.{sound-stands}
 use Rattle.feeding.specs.FedStore.{FedStore, Acceptable, shifted}
 use Rattle.feeding.proofs.Counted.{same-sym}

@@ -1,18 +1,17 @@
 -- What the table says of a feed at a sound store, one way through it after the other. Assumes nothing.
-use mathlib.Core.Path.{_≡_, refl, sym, ap, _∙_}
-use mathlib.Core.Bool.{Bool, true, false, cond, not, _||_}
-use mathlib.Core.List.{List, [], _∷_}
+use mathlib.Core.Path.{_≡_, _∙_}
+use mathlib.Core.Bool.{true, cond}
+use mathlib.Core.List.{List}
 use Prim.Native.Nat.{ℕ, _+_, _≤_, _<_}
-use native.Mathlib.Omega.{arith}
 use borrow.Author.Tests.{lt-ltb, le-ltb, le-leb, lt-leb}
-use lib.Dec.{leb, ltb}
+use lib.Dec.{ltb}
 use Rattle.numbers.specs.Limits.{longest, desks}
-use Rattle.contexts.specs.Sitting.{sampleOf, sat, contextsHeld}
+use Rattle.contexts.specs.Sitting.{sampleOf}
 use Rattle.records.specs.Fed.{missing}
 use Rattle.replay.specs.Table.{Outcome, refused, answered, verdictOf}
 use Rattle.replay.specs.Machine.{Call, asking, atDesk, verdict, tableOf, tableAt, askingTable, ownLines, answerAt}
 use Rattle.replay.specs.Machine as machine
-use Rattle.store.specs.Layout.{symbolsAt, depthAt, reserveAt, sizeAt, recordsIn}
+use Rattle.store.specs.Layout.{symbolsAt, reserveAt, sizeAt, recordsIn}
 use Rattle.store.specs.Sound.{soundb, heldBy}
 use Rattle.store.specs.Plain.{Open}
 use Rattle.store.specs.Meaning.{openingAt, progressAt, meaning}
@@ -20,7 +19,7 @@ use Rattle.store.proofs.Fitting.{desk-opened, desk-closed}
 use Rattle.rules.specs.Feed as rule
 use Rattle.rules.specs.Rules.{Answer, feed, done, linesOf, rules}
 use Rattle.rules.specs.Rules as rules
-use Rattle.feeding.specs.FedStore.{Acceptable, recentAt}
+use Rattle.feeding.specs.FedStore.{recentAt}
 use Rattle.feeding.proofs.Reserving.{held-fed-contexts}
 
 module _ (s : List ℕ) (d k a : ℕ) where

@@ -10,6 +10,7 @@ pub mod Sounding
 pub mod Moving
 pub mod Judging
 pub mod Sets
+pub mod Numbering
 pub mod Noting
 pub mod Placing
 pub mod Asking
@@ -17,3 +18,4 @@ pub mod Writing
 pub mod Answering
 pub mod Refusing
 pub mod Running
+pub mod Settled

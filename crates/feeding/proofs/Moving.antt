@@ -2,38 +2,37 @@
 use mathlib.Core.Path.{_≡_, refl, sym, ap, ap₂, _∙_, subst, fun-ext}
 use mathlib.Core.Logic.{_≢_}
 use mathlib.Core.Bool.{Bool, true, false, cond, _&&_}
-use mathlib.Core.List.{List, [], _∷_}
+use mathlib.Core.List.{List, _∷_}
 use Prim.Native.Nat.{ℕ, min, _+_, _≤_, _<_}
 use native.Mathlib.Omega.{arith}
 use borrow.Author.Tests.{eq-eqb, ne-eqb, le-leb}
-use lib.Dec.{T, eqb, leb}
+use lib.Dec.{eqb}
 use lib.ListN.{length, take}
-use Rattle.numbers.specs.Limits.{deepest, desks}
+use Rattle.numbers.specs.Limits.{desks}
 use Rattle.numbers.specs.Sum.{one}
 use Rattle.numbers.proofs.Tests.{T?, is-true, is-false}
 use Rattle.numbers.proofs.Orders.{less, same, more, order}
 use Rattle.contexts.specs.Context.{isContext, begins}
-use Rattle.contexts.specs.Sitting.{Sample, first, second, sampleOf, sameSample, Progress}
+use Rattle.contexts.specs.Sitting.{Sample, sampleOf, sameSample, Progress}
 use Rattle.contexts.proofs.Strings.{begins→take}
 use Rattle.contexts.proofs.Followed.{context-take}
 use Rattle.records.specs.Held.{keep, ofDesk}
 use Rattle.records.specs.Records.{countOf}
 use Rattle.records.proofs.Growing.{other-fed}
-use Rattle.replay.specs.Room.{Opening, Desk, closed, opened, Room}
+use Rattle.replay.specs.Room.{Desk, opened, Room}
 use Rattle.replay.specs.Machine.{asking, atDesk, put, moved, shift}
-use Rattle.store.specs.Layout.{headerSize, symbolsAt, depthAt, sizeAt, slotsAt, recordsIn}
-use Rattle.store.specs.Sound.{soundb}
-use Rattle.store.specs.Plain.{Open, ContextAt, recordFor}
+use Rattle.store.specs.Layout.{symbolsAt, depthAt, sizeAt, slotsAt, recordsIn}
+use Rattle.store.specs.Plain.{ContextAt, recordFor}
 use Rattle.store.specs.Meaning.{openingAt, progressAt, deskAt, meaning}
 use Rattle.store.proofs.Standing.{sound-stands}
 use Rattle.store.proofs.Fitting.{desk-opened, desk-closed}
-use Rattle.store.proofs.Local.{SameDesk, desk-stays}
+use Rattle.store.proofs.Local.{desk-stays}
 use Rattle.rules.specs.Feed as rule
 use Rattle.rules.specs.Rules.{feed, nextOf, rules}
 use Rattle.feeding.specs.FedStore.{FedStore, Acceptable, recentAt, shifted}
 use Rattle.feeding.proofs.Recent.{recent-context, recent-within, within, recent-shifted}
 use Rattle.feeding.proofs.Counted.{same-sym}
-use Rattle.feeding.proofs.Header.{same?, open-before, open-after, context-same}
+use Rattle.feeding.proofs.Header.{same?, open-after, context-same}
 use Rattle.feeding.proofs.Tallied.{count-after}
 
 module _ (s t : List ℕ) (d : ℕ) (i : Sample) (a : ℕ) (f : FedStore s t d i a) (p : Acceptable s d i a) where

@@ -2,10 +2,10 @@
 use mathlib.Core.Path.{_≡_, refl, sym, ap, _∙_}
 use mathlib.Core.Logic.{_≢_}
 use mathlib.Core.List.{List, [], _∷_, _++_, append-assoc}
-use Prim.Native.Nat.{ℕ, zero, suc, _+_, _-_, _≤_, _<_}
+use Prim.Native.Nat.{ℕ, suc, _+_, _-_, _≤_, _<_}
 use native.Mathlib.Omega.{arith}
 use lib.ListN.{length, take, drop, getD, set, length-set, length-drop}
-use lib.Seq.{sets, sets-eq, length-sets, getD-set-same, getD-set-other, drop-set-lt, drop-drop, length-take-le}
+use lib.Seq.{sets-eq, length-sets, getD-set-same, getD-set-other, drop-set-lt, drop-drop, length-take-le}
 use Rattle.numbers.specs.Limits.{deepest}
 use Rattle.store.specs.Layout.{headerSize}
 use Rattle.feeding.specs.FedStore.{shifted}

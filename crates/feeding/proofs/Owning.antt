@@ -1,25 +1,24 @@
 -- Whose a key is that is held before or after a feed: a context's of an open desk. Assumes nothing.
-use mathlib.Core.Path.{_≡_, refl, sym, ap, _∙_, subst}
-use mathlib.Core.Bool.{Bool, true}
+use mathlib.Core.Path.{_≡_, sym, ap, _∙_}
+use mathlib.Core.Bool.{true}
 use mathlib.Core.List.{List}
-use Prim.Native.Nat.{ℕ, _<_}
+use Prim.Native.Nat.{ℕ}
 use native.Mathlib.Omega.{arith}
 use lib.Dec.{T}
-use lib.ListN.{length, take}
+use lib.ListN.{take}
 use Rattle.contexts.specs.Keys.{keyOf, deskOf}
 use Rattle.contexts.specs.Sitting.{Sample}
 use Rattle.contexts.proofs.KeyOrder.{deskOf-key}
 use Rattle.contexts.proofs.Followed.{context-take}
 use Rattle.records.specs.Held.{held}
-use Rattle.records.specs.Fed.{fed}
 use Rattle.records.proofs.Finding.{held-place}
-use Rattle.records.proofs.Growing.{Origin, before, followed, origin}
-use Rattle.store.specs.Layout.{used, symbolsAt, depthAt, recordsIn}
+use Rattle.records.proofs.Growing.{before, followed, origin}
+use Rattle.store.specs.Layout.{symbolsAt, depthAt, recordsIn}
 use Rattle.store.specs.Sound.{soundb}
 use Rattle.store.specs.Plain.{Open, ContextAt}
 use Rattle.store.proofs.Parts.{records-length}
 use Rattle.store.proofs.Standing.{sound-stands}
-use Rattle.feeding.specs.FedStore.{recentAt}
+use Rattle.feeding.specs.FedStore.{recentAt, recordsFed}
 use Rattle.feeding.proofs.Recent.{recent-context, within}
 
 pub record Owned (s : List ℕ) (k : ℕ) : Type 0 where
@@ -39,7 +38,7 @@ module _ (s : List ℕ) (h : soundb s ≡ true) where
   pub owned-desk : (k : ℕ) (w : Owned s k) → deskOf k ≡ w .desk
   owned-desk k w = ap deskOf (w .under-key) ∙ deskOf-key (w .desk) (w .context) (within s h (w .desk) (w .at-open) (w .context) (w .is-context))
 
-  pub owned-fed : (d : ℕ) → Open s d → (i : Sample) (a k : ℕ) → T (held k (fed d i a (recentAt s d i) (recordsIn s))) → Owned s k
+  pub owned-fed : (d : ℕ) → Open s d → (i : Sample) (a k : ℕ) → T (held k (recordsFed s d i a)) → Owned s k
   owned-fed d o i a k t = elim (origin d i a (recentAt s d i) k (recordsIn s) t) [
     | before b ↦ owned k b
     | followed l m e ↦

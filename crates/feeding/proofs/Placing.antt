@@ -1,59 +1,31 @@
 -- Records that were fed, and a header that was noted, are a store that was fed. Assumes nothing.
-use mathlib.Core.Path.{_≡_, refl, sym, ap, ap₂, _∙_}
+use mathlib.Core.Path.{_≡_, sym, ap, ap₂, _∙_}
 use mathlib.Core.Logic.{_≢_}
-use mathlib.Core.Bool.{true, false, cond}
-use mathlib.Core.List.{List, [], _∷_, _++_}
-use Prim.Native.Nat.{ℕ, suc, _+_, _-_, _*_, _≤_, _<_}
+use mathlib.Core.Bool.{cond}
+use mathlib.Core.List.{List, _++_}
+use Prim.Native.Nat.{ℕ, suc, _+_, _*_, _≤_, _<_}
 use native.Mathlib.Omega.{arith}
 use lib.ListN.{length, take, drop, getD, length-append, length-drop, List·getD-append}
 use lib.Seq.{getD-take, drop-at, drop-drop, length-take-le}
 use Rattle.numbers.specs.Limits.{deepest, desks}
 use Rattle.numbers.specs.Sum.{one}
-use Rattle.numbers.proofs.Orders.{Order, less, same, more, order}
-use Rattle.contexts.specs.Sitting.{Sample, first, second, sameSample}
+use Rattle.numbers.proofs.Orders.{less, same, more, order}
+use Rattle.contexts.specs.Sitting.{Sample, sameSample}
 use Rattle.records.specs.Records.{width, records}
 use Rattle.records.specs.Bumped.{Written}
-use Rattle.records.specs.Fed.{fed, missing}
 use Rattle.records.proofs.Lent.{agree-later}
 use Rattle.records.proofs.Settling.{written-count}
 use Rattle.store.specs.Layout.{headerSize, storeSize, room, used, deskStart, field, sizeField, recentField, sizeAt, slotsAt, recordsIn}
-use Rattle.store.specs.Plain.{Open}
 use Rattle.store.proofs.Standing.{sound-stands, slots-long}
-use Rattle.feeding.specs.FedStore.{FedStore, Acceptable, recentAt, shifted}
+use Rattle.feeding.specs.FedStore.{FedStore, Acceptable, shifted, recordsFed}
 use Rattle.feeding.specs.Noted.{noted, Places}
+use Rattle.feeding.proofs.Numbering.{Fields, fields-of, own, other, kin, desk-places}
 use Rattle.feeding.proofs.Sets.{six-at, six-are}
-use Rattle.feeding.proofs.Header.{slot-field}
 use Rattle.feeding.proofs.Filling.{room-enough}
 use Rattle.feeding.proofs.Noting.{noted-length, noted-before, noted-past, noted-used, noted-size, noted-symbol, noted-drop}
 
--- the places of a desk's sample
-pub desk-places : (l : List ℕ) (d : ℕ) (i : Sample) → d < desks → headerSize ≤ length l → Places (deskStart d + sizeField i) (deskStart d + recentField i) l
-desk-places l d first h g = record { past-used = omega arith; in-order = omega arith; in-header = omega arith; long = g }
-desk-places l d second h g = record { past-used = omega arith; in-order = omega arith; in-header = omega arith; long = g }
-
--- where a sample's length and its recent symbols stand among a desk's numbers
-record Fields (i : Sample) : Type 0 where
-  pub low : 4 ≤ sizeField i
-  pub high : sizeField i ≤ 5
-  pub slots : recentField i + 18 ≡ 6 * sizeField i
-
-fields-of : (i : Sample) → Fields i
-fields-of first = record { low = omega arith; high = omega arith; slots = omega arith }
-fields-of second = record { low = omega arith; high = omega arith; slots = omega arith }
-
--- one sample, or both
-data Kin (j i : Sample) : Type 0 where
-  own : j ≡ i → sameSample j i ≡ true → Kin j i
-  other : sizeField j ≢ sizeField i → sameSample j i ≡ false → Kin j i
-
-kin : (j i : Sample) → Kin j i
-kin first first = own refl refl
-kin first second = other (λ e. omega arith) refl
-kin second first = other (λ e. omega arith) refl
-kin second second = own refl refl
-
 module _ (s : List ℕ) (d : ℕ) (i : Sample) (a : ℕ) (p : Acceptable s d i a) (m : ℕ) (ys : List ℕ) (long : length ys ≡ length (drop headerSize s))
-    (w : Written (fed d i a (recentAt s d i) (recordsIn s)) m (drop headerSize s) ys) where
+    (w : Written (recordsFed s d i a) m (drop headerSize s) ys) where
   -- the store with its records fed
   abbrev counted : List ℕ
   counted = take headerSize s ++ ys
@@ -165,7 +137,7 @@ module _ (s : List ℕ) (d : ℕ) (i : Sample) (a : ℕ) (p : Acceptable s d i a
   body : drop headerSize done ≡ ys
   body = noted-drop m _ _ a counted places ∙ drop-at (take headerSize s) ys headerSize front-long
 
-  records-after : recordsIn done ≡ fed d i a (recentAt s d i) (recordsIn s)
+  records-after : recordsIn done ≡ recordsFed s d i a
   unfolding recordsIn
   records-after = ap₂ records used-after body ∙ w .live
 

@@ -1,5 +1,5 @@
 -- Refusals 2 to 9 of a feed, as the code has them. Assumes nothing.
-use mathlib.Core.Path.{_≡_, refl, sym, ap, _∙_}
+use mathlib.Core.Path.{_≡_, sym, ap, _∙_}
 use mathlib.Core.Bool.{true}
 use mathlib.Core.List.{List}
 use Prim.Native.Nat.{ℕ, _+_, _≤_, _<_}
@@ -20,7 +20,7 @@ use Rattle.calls.specs.Promises.{Moves}
 use Rattle.calls.proofs.Settled.{moves-refused}
 use Rattle.feeding.specs.FedStore.{Judged}
 use Rattle.feeding.proofs.Judging.{no-such-desk, not-open, no-sample, no-symbol, sample-full}
-use Rattle.feeding.proofs.Writing.{size-number}
+use Rattle.feeding.proofs.Numbering.{size-number}
 
 -- a desk's numbers may be read
 pub field-readable : (s : List ℕ) → soundb s ≡ true → (d : ℕ) → d < desks → (n : ℕ) → n < 32 → (headerSize ≤ length s) × (d < desks) × (n < 32)

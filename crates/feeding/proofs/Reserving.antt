@@ -2,12 +2,12 @@
 use mathlib.Core.Path.{_≡_, refl, sym, ap, ap₂, _∙_, subst}
 use mathlib.Core.Bool.{Bool, true, false, _&&_, _||_}
 use mathlib.Core.List.{List, []}
-use Prim.Native.Nat.{ℕ, _+_, _≤_, _<_}
+use Prim.Native.Nat.{ℕ, _+_, _<_}
 use native.Mathlib.Omega.{arith}
 use borrow.Author.Tests.{le-leb, lt-ltb, eq-eqb}
-use lib.Dec.{T, eqb, ltb, leb, eqb→eq}
+use lib.Dec.{T, eqb, ltb, eqb→eq}
 use lib.ListN.{length, getD}
-use Rattle.numbers.specs.Sum.{one, sum}
+use Rattle.numbers.specs.Sum.{one}
 use Rattle.numbers.proofs.Tests.{left, right}
 use Rattle.numbers.proofs.Orders.{eqb-sym}
 use Rattle.numbers.proofs.Sums.{sum-cong, sum-pick}
@@ -30,10 +30,10 @@ use Rattle.store.specs.Meaning.{openingAt, progressAt, sittingAt}
 use Rattle.store.proofs.Passing.{passed, desk-passed}
 use Rattle.store.proofs.Totalling.{total-keys}
 use Rattle.rules.specs.Feed as rule
-use Rattle.feeding.specs.FedStore.{recentAt}
+use Rattle.feeding.specs.FedStore.{recentAt, recordsFed}
 use Rattle.feeding.proofs.Recent.{recent-within, within}
 use Rattle.feeding.proofs.Before.{rising, held-is}
-use Rattle.feeding.proofs.Owning.{Owned, owned-fed, owned-desk}
+use Rattle.feeding.proofs.Owning.{owned-fed, owned-desk}
 
 regroup : (p b e : Bool) → (p && (true && (b && e))) ≡ ((p && b) && e)
 regroup true b e = refl
@@ -52,9 +52,6 @@ module _ (s : List ℕ) (h : soundb s ≡ true) (d : ℕ) (o : Open s d) (i : Sa
   abbrev after : Sitting
   after = sat (symbolsAt s d) (depthAt s d) (rule.fed (openingAt s d) i a (progressAt s d))
 
-  abbrev fedRecords : List (List ℕ)
-  fedRecords = fed d i a (recentAt s d i) (recordsIn s)
-
   total-after : (j : Sample) (c : List ℕ) → totalIn after j c ≡ totalIn (sittingAt s d) j c + one (sameSample j i && begins c (recentAt s d i))
   unfolding rule.fed
   total-after j c =
@@ -70,31 +67,31 @@ module _ (s : List ℕ) (h : soundb s ≡ true) (d : ℕ) (o : Open s d) (i : Sa
   own-key : (c : List ℕ) → ContextAt s d c → ofDesk d (keyOf d c) ≡ true
   own-key c x = eq-eqb (deskOf (keyOf d c)) d (deskOf-key d c (within s h d o c x))
 
-  held-records-after : (c : List ℕ) → ContextAt s d c → isHeld after c ≡ held (keyOf d c) (keep (ofDesk d) fedRecords)
+  held-records-after : (c : List ℕ) → ContextAt s d c → isHeld after c ≡ held (keyOf d c) (keep (ofDesk d) (recordsFed s d i a))
   held-records-after c x =
       held-after c
       ∙ rw (
         held-is s h d o c x,
-        held-keep (ofDesk d) (keyOf d c) fedRecords,
+        held-keep (ofDesk d) (keyOf d c) (recordsFed s d i a),
         own-key c x,
         held-fed d (recentAt s d i) (recent-within s h d o i) d c (within s h d o c x) i a (recordsIn s),
         eq-eqb d d refl,
       )
 
   -- each of the desk's records is that of one of its contexts
-  own-context : (j : ℕ) → j < length (keep (ofDesk d) fedRecords) → (c : List ℕ) × ContextAt s d c × (key (getD (keep (ofDesk d) fedRecords) j []) ≡ keyOf d c)
+  own-context : (j : ℕ) → j < length (keep (ofDesk d) (recordsFed s d i a)) → (c : List ℕ) × ContextAt s d c × (key (getD (keep (ofDesk d) (recordsFed s d i a)) j []) ≡ keyOf d c)
   own-context j m =
-      let k = key (getD (keep (ofDesk d) fedRecords) j []) in
-      let t : T (ofDesk d k && held k fedRecords) = rw (held-keep (ofDesk d) k fedRecords) at (place-held k j (keep (ofDesk d) fedRecords) m refl) in
-      let w = owned-fed s h d o i a k (right (ofDesk d k) (held k fedRecords) t) in
-      let e : w .desk ≡ d = sym (owned-desk s h k w) ∙ eqb→eq (deskOf k) d (left (ofDesk d k) (held k fedRecords) t) in
+      let k = key (getD (keep (ofDesk d) (recordsFed s d i a)) j []) in
+      let t : T (ofDesk d k && held k (recordsFed s d i a)) = rw (held-keep (ofDesk d) k (recordsFed s d i a)) at (place-held k j (keep (ofDesk d) (recordsFed s d i a)) m refl) in
+      let w = owned-fed s h d o i a k (right (ofDesk d k) (held k (recordsFed s d i a)) t) in
+      let e : w .desk ≡ d = sym (owned-desk s h k w) ∙ eqb→eq (deskOf k) d (left (ofDesk d k) (held k (recordsFed s d i a)) t) in
       (w .context, subst (λ (e : ℕ). ContextAt s e (w .context)) e (w .is-context), w .under-key ∙ ap (λ (e : ℕ). keyOf e (w .context)) e)
 
   -- THEOREM. A sitting holds after a feed as many contexts as its desk had records, and as many more as were missing
   pub held-fed-contexts : contextsHeld after ≡ heldBy d (recordsIn s) + missing d (recentAt s d i) (recordsIn s)
   held-fed-contexts =
       let g = desk-passed s (passed s h) d o in
-      let up = rises-keep (ofDesk d) 0 fedRecords (rising-fed d i a (recentAt s d i) (recordsIn s) (rising s h)) in
+      let up = rises-keep (ofDesk d) 0 (recordsFed s d i a) (rising-fed d i a (recentAt s d i) (recordsIn s) (rising s h)) in
       total-within (symbolsAt s d) (depthAt s d) (λ c x. ap one (held-records-after c x))
-      ∙ total-keys (symbolsAt s d) (depthAt s d) d (g .most) (g .depth) 0 (keep (ofDesk d) fedRecords) up own-context
+      ∙ total-keys (symbolsAt s d) (depthAt s d) d (g .most) (g .depth) 0 (keep (ofDesk d) (recordsFed s d i a)) up own-context
       ∙ desk-length-fed d i a (recentAt s d i) (recent-within s h d o i) (recordsIn s) (rising s h)

@@ -1,8 +1,8 @@
 -- A run of feeds half way: what is left of it decides how it ends. Assumes nothing.
-use mathlib.Core.Path.{_≡_, refl, sym, ap, ap₂, _∙_, subst}
-use mathlib.Core.Bool.{Bool, true, false}
-use mathlib.Core.List.{List, [], _∷_}
-use Prim.Native.Nat.{ℕ, zero, suc, _+_, _≤_, _<_}
+use mathlib.Core.Path.{_≡_, refl, sym, ap, _∙_, subst}
+use mathlib.Core.Bool.{true, false}
+use mathlib.Core.List.{List}
+use Prim.Native.Nat.{ℕ, suc, _+_, _≤_, _<_}
 use native.Mathlib.Omega.{arith}
 use native.Mathlib.Numerals.{add-one}
 use lib.ListN.{length, drop, getD, drop-of-length-le}
@@ -10,7 +10,7 @@ use lib.Seq.{drop-cons}
 use Rattle.contexts.specs.Sitting.{Progress}
 use Rattle.replay.specs.Room.{Room}
 use Rattle.replay.specs.Table.{Outcome, refused, answered}
-use Rattle.replay.specs.Machine.{Call, verdict, move, shift, settle, atDesk, roomQuestion}
+use Rattle.replay.specs.Machine.{verdict, move, shift, settle}
 use Rattle.store.specs.Layout.{storeSize, room}
 use Rattle.store.specs.Sound.{soundb}
 use Rattle.store.specs.Meaning.{meaning}
@@ -32,6 +32,9 @@ move-made ρ d k a = settled-made (verdict rules ρ (feeding d k a)) ρ (shift r
 room-made : (s : List ℕ) → meaning s .made ≡ room s
 unfolding meaning
 room-made s = refl
+
+pub room-moved : (x y : List ℕ) (d k a : ℕ) (o : Outcome Answer) → soundb x ≡ true → Moves x (feeding d k a) o y → room y ≡ room x
+room-moved x y d k a o h m = sym (room-made y) ∙ ap (λ (ρ : Room Progress). ρ .made) (m .moves h) ∙ move-made (meaning x) d k a ∙ room-made x
 
 -- ---- a run with n accepted feeds before it
 unfoldable pub ahead : ℕ → Run → Run
@@ -68,7 +71,7 @@ module _ (s : List ℕ) (d k : ℕ) (symbols : List ℕ) where
     ran-on y l m =
         let accepts : answered done ≡ verdict rules (meaning x) (feeding d k (getD symbols n 0)) = m .answers (r .sound) in
         let moved : meaning y ≡ move rules (meaning x) (feeding d k (getD symbols n 0)) = m .moves (r .sound) in
-        let same : room y ≡ room x = sym (room-made y) ∙ ap (λ (ρ : Room Progress). ρ .made) moved ∙ move-made (meaning x) d k (getD symbols n 0) ∙ room-made x in
+        let same = room-moved x y d k (getD symbols n 0) (answered done) (r .sound) m in
         let then = fedRun d k (drop (suc n) symbols) (meaning y) in
         let one-more : fedRun d k (drop n symbols) (meaning x) ≡ record { accepted = suc (then .accepted); ending = then .ending; room = then .room } = next l ∙ rw (← accepts, ← moved) in
         record {

@@ -1,17 +1,15 @@
 -- A store stays sound through a feed. Assumes nothing.
 use mathlib.Core.Path.{_≡_, refl, sym, ap, _∙_, subst}
 use mathlib.Core.Bool.{Bool, true, false, _&&_}
-use mathlib.Core.List.{List, [], _∷_}
+use mathlib.Core.List.{List}
 use Prim.Native.Nat.{ℕ, _+_, _≤_, _<_}
 use native.Mathlib.Omega.{arith}
-use borrow.Author.Tests.{eq-eqb, ne-eqb}
-use lib.Dec.{T, eqb, eqb→eq}
-use lib.ListN.{length, take}
+use borrow.Author.Tests.{ne-eqb}
+use lib.Dec.{T, eqb}
+use lib.ListN.{length}
 use Rattle.numbers.specs.Sum.{one}
-use Rattle.numbers.proofs.Tests.{both, left, right, is-true, of-true}
-use Rattle.numbers.proofs.Orders.{less, same, more, order, eq→eqb}
+use Rattle.numbers.proofs.Orders.{less, same, more, order}
 use Rattle.contexts.specs.Context.{begins}
-use Rattle.contexts.specs.Keys.{keyOf}
 use Rattle.contexts.specs.Sitting.{Sample, first, second, sameSample}
 use Rattle.contexts.proofs.Strings.{begins→take}
 use Rattle.contexts.proofs.KeyOrder.{Within}
@@ -20,7 +18,7 @@ use Rattle.records.specs.Records.{key, lookup, countOf}
 use Rattle.records.specs.Held.{held}
 use Rattle.records.proofs.Finding.{place-held, lookup-place}
 use Rattle.records.proofs.Rising.{rises-apart}
-use Rattle.store.specs.Layout.{used, symbolsAt, depthAt, sizeAt, recordsIn, totalOf}
+use Rattle.store.specs.Layout.{used, symbolsAt, sizeAt, recordsIn, totalOf}
 use Rattle.store.specs.Sound.{soundb}
 use Rattle.store.specs.Plain.{Open, ContextAt, Counts, recordFor, totalAt, recordAt, Sound}
 use Rattle.store.proofs.Parts.{records-length}
@@ -28,32 +26,9 @@ use Rattle.store.proofs.Standing.{sound-stands}
 use Rattle.store.proofs.Converse.{stands-sound}
 use Rattle.feeding.specs.FedStore.{FedStore, Acceptable, recentAt}
 use Rattle.feeding.proofs.Recent.{within}
-use Rattle.feeding.proofs.Owning.{Owned}
+use Rattle.feeding.proofs.Counted.{begins-trans, one-part, either}
 use Rattle.feeding.proofs.Header.{same?, limit-same, size-after, open-before, open-after, context-same, reservations-same, size-within, slots-below}
 use Rattle.feeding.proofs.Tallied.{rising-after, count-after, total-after, owned-after, seen-after, held-after, few-after}
-
-begins-trans : (u c r : List ℕ) → T (begins u c) → T (begins c r) → T (begins u r)
-begins-trans [] c r h g = tt
-begins-trans (x ∷ u) [] r h g = absurd h
-begins-trans (x ∷ u) (y ∷ c) [] h g = absurd g
-begins-trans (x ∷ u) (y ∷ c) (z ∷ r) h g =
-    let e = eqb→eq x y (left (eqb x y) (begins u c) h) in
-    let f = eqb→eq y z (left (eqb y z) (begins c r) g) in
-    both (eqb x z) (begins u r) (eq→eqb x z (e ∙ f)) (begins-trans u c r (right (eqb x y) (begins u c) h) (right (eqb y z) (begins c r) g))
-
-one-part : (p q b : Bool) → one (p && (q && b)) ≤ one (p && q)
-one-part true true true = omega arith
-one-part true true false = omega arith
-one-part true false b = omega arith
-one-part false q b = omega arith
-
--- what is seen with one more was seen before, or has the one
-either : (m n : ℕ) (p q b g : Bool) → (0 < m → 0 < n) → (T b → T g) → 0 < m + one (p && (q && b)) → 0 < n + one (p && (q && g))
-either m n true true true true h k l = omega arith
-either m n true true true false h k l = absurd (k tt)
-either m n true true false g h k l = omega (arith, h (omega arith))
-either m n true false b g h k l = omega (arith, h (omega arith))
-either m n false q b g h k l = omega (arith, h (omega arith))
 
 module _ (s t : List ℕ) (d : ℕ) (i : Sample) (a : ℕ) (f : FedStore s t d i a) (p : Acceptable s d i a) where
   stands : Sound s

@@ -1,48 +1,32 @@
 -- The records after a feed: their order, their totals, and how many each desk has. Assumes nothing.
-use mathlib.Core.Path.{_≡_, refl, sym, ap, _∙_, subst}
-use mathlib.Core.Logic.{_≢_}
+use mathlib.Core.Path.{_≡_, ap, _∙_}
 use mathlib.Core.Bool.{Bool, true, false, _&&_, _||_}
-use mathlib.Core.List.{List, [], _∷_}
+use mathlib.Core.List.{List}
 use Prim.Native.Nat.{ℕ, _+_, _≤_, _<_}
 use native.Mathlib.Omega.{arith}
-use borrow.Author.Tests.{eq-eqb, ne-eqb}
-use lib.Dec.{T, eqb, eqb→eq}
-use lib.ListN.{length, getD}
-use Rattle.numbers.specs.Limits.{mostSymbols, desks}
-use Rattle.numbers.specs.Sum.{one, sum}
-use Rattle.numbers.proofs.Tests.{left, right, is-true, is-false}
-use Rattle.numbers.proofs.Orders.{less, same, more, order}
-use Rattle.numbers.proofs.Sums.{sum-mono}
+use lib.Dec.{T, eqb}
+use Rattle.numbers.specs.Limits.{mostSymbols}
+use Rattle.numbers.specs.Sum.{one}
 use Rattle.contexts.specs.Context.{begins}
-use Rattle.contexts.specs.Keys.{keyOf, deskOf}
+use Rattle.contexts.specs.Keys.{keyOf}
 use Rattle.contexts.specs.Sitting.{Sample, first, second, sameSample}
 use Rattle.contexts.proofs.KeyOrder.{Within}
-use Rattle.records.specs.Records.{key, lookup, countOf}
-use Rattle.records.specs.Held.{held, keep, ofDesk, Rising}
-use Rattle.records.specs.Fed.{fed, missing}
-use Rattle.records.proofs.Keeping.{held-keep}
-use Rattle.records.proofs.Finding.{place-held}
+use Rattle.records.specs.Records.{lookup, countOf}
+use Rattle.records.specs.Held.{held, Rising}
 use Rattle.records.proofs.Feeding.{count-fed, held-fed, rising-fed}
-use Rattle.records.proofs.Growing.{desk-length-fed, other-fed}
-use Rattle.records.proofs.Desks.{length-desks}
-use Rattle.store.specs.Layout.{room, used, isOpen, symbolsAt, reserveAt, recordsIn, totalOf}
-use Rattle.store.specs.Sound.{heldBy, reservedAt}
-use Rattle.store.specs.Plain.{Open, ContextAt, recordFor, totalAt, Sound}
+use Rattle.store.specs.Layout.{room, used, reserveAt, recordsIn, totalOf}
+use Rattle.store.specs.Sound.{heldBy}
+use Rattle.store.specs.Plain.{Open, recordFor, totalAt}
 use Rattle.store.proofs.Parts.{records-length}
 use Rattle.store.proofs.Passing.{passed, desk-passed}
-use Rattle.store.proofs.Fitting.{open?}
-use Rattle.store.proofs.Standing.{sound-stands}
 use Rattle.feeding.specs.FedStore.{FedStore, Acceptable, recentAt}
-use Rattle.feeding.proofs.Recent.{recent-within, within}
+use Rattle.feeding.proofs.Recent.{recent-within}
 use Rattle.feeding.proofs.Before.{rising, wide, held-seen}
 use Rattle.feeding.proofs.Counted.{total-fed}
-use Rattle.feeding.proofs.Owning.{Owned, owned-fed, owned-desk}
+use Rattle.feeding.proofs.Owning.{Owned, owned-fed}
 use Rattle.feeding.proofs.Filling.{held-within, room-enough}
 
 module _ (s t : List ℕ) (d : ℕ) (i : Sample) (a : ℕ) (f : FedStore s t d i a) (p : Acceptable s d i a) where
-  abbrev fedRecords : List (List ℕ)
-  fedRecords = fed d i a (recentAt s d i) (recordsIn s)
-
   cr : Within (recentAt s d i)
   cr = recent-within s (p .sound) d (p .at-open) i
 

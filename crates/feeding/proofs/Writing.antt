@@ -1,11 +1,11 @@
 -- An accepted feed as the code writes it: the records part lent and come back, then the header noted. Assumes nothing.
-use mathlib.Core.Path.{_≡_, refl, sym, ap, ap₂, _∙_, subst}
+use mathlib.Core.Path.{_≡_, sym, ap, _∙_, subst}
 use mathlib.Core.List.{List, _++_}
-use Prim.Native.Nat.{ℕ, zero, suc, _+_, _-_, _*_, _≤_, _<_}
+use Prim.Native.Nat.{ℕ, _+_, _-_, _*_, _≤_, _<_}
 use native.Mathlib.Omega.{arith}
 use lib.ListN.{length, take, drop, getD}
 use Rattle.numbers.specs.Limits.{longest, mostRoom}
-use Rattle.contexts.specs.Sitting.{Sample, sampleOf}
+use Rattle.contexts.specs.Sitting.{sampleOf}
 use Rattle.records.specs.Records.{records}
 use Rattle.records.specs.Bumped.{Written}
 use Rattle.records.specs.Fed.{fed, Feedable}
@@ -13,22 +13,12 @@ use Rattle.records.proofs.Lent.{tail-lent, tail-back}
 use Rattle.records.proofs.Settling.{written-count}
 use Rattle.store.specs.Layout.{headerSize, used, deskStart, sizeField, recentField, recordsIn}
 use Rattle.store.proofs.Standing.{sound-stands}
-use Rattle.feeding.specs.FedStore.{FedStore, Acceptable, recentAt}
+use Rattle.feeding.specs.FedStore.{FedStore, Acceptable, recentAt, recordsFed}
 use Rattle.feeding.specs.Noted.{noted, Places}
+use Rattle.feeding.proofs.Numbering.{size-number, recent-number, desk-places}
 use Rattle.feeding.proofs.Filling.{room-enough}
-use Rattle.feeding.proofs.Placing.{desk-places, counted-long, counted-header, header-long, fed-store}
+use Rattle.feeding.proofs.Placing.{counted-long, counted-header, header-long, fed-store}
 use Rattle.feeding.proofs.Asking.{feedable}
-
--- where a sample's numbers stand, by the sample's number
-pub size-number : (k : ℕ) → k ≤ 1 → 4 + k ≡ sizeField (sampleOf k)
-size-number zero l = refl
-size-number (suc zero) l = refl
-size-number (suc (suc k)) l = absurd (omega arith)
-
-pub recent-number : (k : ℕ) → k ≤ 1 → 6 + 6 * k ≡ recentField (sampleOf k)
-recent-number zero l = refl
-recent-number (suc zero) l = refl
-recent-number (suc (suc k)) l = absurd (omega arith)
 
 module _ (s : List ℕ) (d k a : ℕ) (p : Acceptable s d (sampleOf k) a) (one : k ≤ 1) (r : List ℕ) (e : r ≡ recentAt s d (sampleOf k)) where
   abbrev lent : List ℕ
@@ -47,7 +37,7 @@ module _ (s : List ℕ) (d k a : ℕ) (p : Acceptable s d (sampleOf k) a) (one :
     long′ : length ys ≡ length (drop headerSize s)
     long′ = long ∙ ap length (tail-lent headerSize s)
 
-    w′ : Written (fed d (sampleOf k) a (recentAt s d (sampleOf k)) (recordsIn s)) m (drop headerSize s) ys
+    w′ : Written (recordsFed s d (sampleOf k) a) m (drop headerSize s) ys
     unfolding recordsIn
     w′ = rw (e, tail-lent headerSize s) at w
 

@@ -3,7 +3,7 @@ use Prim.Native.Nat.{ℕ, min, _+_, _≤_, _<_}
 use mathlib.Core.Path.{_≡_}
 use mathlib.Core.Logic.{_≢_}
 use mathlib.Core.Bool.{true, cond}
-use mathlib.Core.List.{List, [], _∷_}
+use mathlib.Core.List.{List, _∷_}
 use lib.ListN.{length, take, drop}
 use Rattle.numbers.specs.Limits.{longest, desks}
 use Rattle.numbers.specs.Sum.{one}
@@ -16,6 +16,10 @@ use Rattle.store.specs.Plain.{Open}
 -- the last up to D symbols of a sample, most recent first
 abbrev pub recentAt : List ℕ → ℕ → Sample → List ℕ
 recentAt s d i = take (min (sizeAt s d i) (depthAt s d)) (slotsAt s d i)
+
+-- the records after symbol a is fed to sample i of desk d: every context that it follows has one more count, and no other record has changed
+abbrev pub recordsFed : List ℕ → ℕ → Sample → ℕ → List (List ℕ)
+recordsFed s d i a = fed d i a (recentAt s d i) (recordsIn s)
 
 -- what refusals 1 to 9 leave to a feed of symbol a to sample number k of desk d
 pub record Judged (s : List ℕ) (d k a : ℕ) : Type 0 where
@@ -46,8 +50,7 @@ pub record FedStore (s t : List ℕ) (d : ℕ) (i : Sample) (a : ℕ) : Type 0 w
   -- the sample is longer by one, and its recent symbols have moved on
   pub sizes : (j : Sample) → sizeAt t d j ≡ sizeAt s d j + one (sameSample j i)
   pub slots : (j : Sample) → slotsAt t d j ≡ cond (sameSample j i) (shifted a (slotsAt s d j)) (slotsAt s d j)
-  -- every context that the symbol follows has one more count, and no other record has changed
-  pub records-fed : recordsIn t ≡ fed d i a (recentAt s d i) (recordsIn s)
+  pub records-fed : recordsIn t ≡ recordsFed s d i a
   -- "only the first that many are ever written"
   pub past-same : drop (storeSize (room s)) t ≡ drop (storeSize (room s)) s
   pub length-same : length t ≡ length s

@@ -145,30 +145,6 @@ fn feed_judged(store: &mut [u32], desk: u32, sample: u32, symbol: u32) -> Verdic
     Verdict::Done
 }
 
-// How many contexts the desk's sitting holds after a symbol that follows `recent`.
-fn held_then(store: &[u32], desk: u32, recent: &[u32]) -> usize
-    requires { ⌜ (soundb (now store) ≡ true) × Askable desk (now recent) (used (now store)) (drop headerSize (now store)) ⌝ }
-    ensures { λ r. ⌜ r ≡ heldBy desk (recordsIn (now (store .entry))) + missing desk (now (recent .entry)) (recordsIn (now (store .entry))) ⌝ }
-{
-    let many = store[USED] as usize;
-    let body = &store[HEADER..];
-    held_by(body, many, desk) + missing_in(body, many, desk, recent)
-}
-
-// Writes an accepted feed: the records, then the header. `recent` are the symbols before it, most recent first.
-fn write_feed(store: &mut [u32], desk: u32, sample: u32, symbol: u32, recent: &[u32])
-    requires { ⌜ Acceptable (now store) desk (sampleOf sample) symbol × (sample ≤ 1) × (now recent ≡ recentAt (now store) desk (sampleOf sample)) ⌝ }
-    ensures { λ _. ⌜ FedStore (now (store .entry)) (now (store .exit)) desk (sampleOf sample) symbol ⌝ }
-{
-    let many = store[USED] as usize;
-    let count = feed_records(&mut store[HEADER..], many, desk, sample, symbol, recent);
-    let start = FIRST_DESK + DESK_SIZE * desk as usize;
-    let i = sample as usize;
-    let size = start + (SIZE_FIRST + i);
-    let slots = start + (RECENT_FIRST + SLOTS * i);
-    note(store, count as u32, size, slots, symbol);
-}
-
 // The smaller of two numbers.
 fn fewer(a: u32, b: u32) -> u32
     ensures { λ r. ⌜ r ≡ min a b ⌝ }
@@ -177,18 +153,6 @@ fn fewer(a: u32, b: u32) -> u32
         return a;
     }
     b
-}
-
-// How many of the first `n` records are a desk's.
-fn held_by(numbers: &[u32], n: usize, desk: u32) -> usize
-    requires { ⌜ Removable desk n (now numbers) ⌝ }
-    ensures { λ r. ⌜ r ≡ length (keep (ofDesk desk) (records n (now (numbers .entry)))) ⌝ }
-{
-    let least = desk * DESK_SPAN;
-    let past = least + DESK_SPAN;
-    let first = place_of(numbers, n, least);
-    let next = place_of(numbers, n, past);
-    next - first
 }
 
 // The six recent symbols from a place on.
@@ -204,6 +168,42 @@ fn six_from(store: &[u32], at: usize) -> [u32; 6]
         store[at + 4],
         store[at + 5],
     ]
+}
+
+// How many contexts the desk's sitting holds after a symbol that follows `recent`.
+fn held_then(store: &[u32], desk: u32, recent: &[u32]) -> usize
+    requires { ⌜ (soundb (now store) ≡ true) × Askable desk (now recent) (used (now store)) (drop headerSize (now store)) ⌝ }
+    ensures { λ r. ⌜ r ≡ heldBy desk (recordsIn (now (store .entry))) + missing desk (now (recent .entry)) (recordsIn (now (store .entry))) ⌝ }
+{
+    let many = store[USED] as usize;
+    let body = &store[HEADER..];
+    held_by(body, many, desk) + missing_in(body, many, desk, recent)
+}
+
+// How many of the first `n` records are a desk's.
+fn held_by(numbers: &[u32], n: usize, desk: u32) -> usize
+    requires { ⌜ Removable desk n (now numbers) ⌝ }
+    ensures { λ r. ⌜ r ≡ length (keep (ofDesk desk) (records n (now (numbers .entry)))) ⌝ }
+{
+    let least = desk * DESK_SPAN;
+    let past = least + DESK_SPAN;
+    let first = place_of(numbers, n, least);
+    let next = place_of(numbers, n, past);
+    next - first
+}
+
+// Writes an accepted feed: the records, then the header. `recent` are the symbols before it, most recent first.
+fn write_feed(store: &mut [u32], desk: u32, sample: u32, symbol: u32, recent: &[u32])
+    requires { ⌜ Acceptable (now store) desk (sampleOf sample) symbol × (sample ≤ 1) × (now recent ≡ recentAt (now store) desk (sampleOf sample)) ⌝ }
+    ensures { λ _. ⌜ FedStore (now (store .entry)) (now (store .exit)) desk (sampleOf sample) symbol ⌝ }
+{
+    let many = store[USED] as usize;
+    let count = feed_records(&mut store[HEADER..], many, desk, sample, symbol, recent);
+    let start = FIRST_DESK + DESK_SIZE * desk as usize;
+    let i = sample as usize;
+    let size = start + (SIZE_FIRST + i);
+    let slots = start + (RECENT_FIRST + SLOTS * i);
+    note(store, count as u32, size, slots, symbol);
 }
 
 // Notes a feed in the header: how many records there are, one more symbol in the sample, and the symbol first of the recent ones.

@@ -1,5 +1,5 @@
 -- `feeding::feed_run` meets its contract: after `done` accepted feeds what is left of the run decides. Assumes nothing.
-use Prim.Native.Nat.{_+_, _-_}
+use Prim.Native.Nat.{_-_}
 use native.Mathlib.Omega.{arith}
 use borrow.Author.Needs.{needs}
 use mathlib.Core.Path.{_≡_, subst, _∙_}

@@ -6,7 +6,7 @@ use borrow.Author.Needs.{needs}
 use lib.ListN.{length}
 use Rattle.contexts.specs.Keys.{deskSpan}
 use Rattle.records.specs.Records.{records, keys}
-use Rattle.records.specs.Held.{rank, keep, ofDesk}
+use Rattle.records.specs.Held.{keep, ofDesk}
 use Rattle.records.proofs.Rising.{rank-same}
 use Rattle.feeding.proofs.Asking.{desk-many}
 use Rattle.feeding.proofs.held_by.Statement.{statement}
