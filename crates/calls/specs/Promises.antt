@@ -30,18 +30,18 @@ pub record Moves (before : List ℕ) (c : Call rules) (o : Outcome Answer) (afte
   pub length-stays : length after ≡ length before
 
 -- a call that only reads the store
-pub record Asks (before : List ℕ) (c : Call rules) (o : Outcome Answer) : Type 0 where
-  pub unsound : soundb before ≡ false → o ≡ refused 1
-  pub answers : soundb before ≡ true → o ≡ verdict rules (meaning before) c
+pub record Asks (store : List ℕ) (c : Call rules) (o : Outcome Answer) : Type 0 where
+  pub unsound : soundb store ≡ false → o ≡ refused 1
+  pub answers : soundb store ≡ true → o ≡ verdict rules (meaning store) c
 
 -- the sheet with rows written from row `place` on: "every number outside those rows stays"
 abbrev pub withRows : ℕ → List Row → List ℕ → List ℕ
 withRows place rs sheet = take (rowWidth * place) sheet ++ (sheetOf rs ++ drop (rowWidth * (place + length rs)) sheet)
 
 -- a report on desk d from row `place` on, which answers o and leaves the sheet as `after`
-pub record Reports (store : List ℕ) (d place : ℕ) (o : Outcome Answer) (before after : List ℕ) : Type 0 where
+pub record Reports (store : List ℕ) (d place : ℕ) (o : Outcome Answer) (sheet after : List ℕ) : Type 0 where
   -- the store is only read, and the answer, rows and score, is the machine's
-  pub asks : Asks store (atDesk d (asking (reporting (length before) place))) o
+  pub asks : Asks store (atDesk d (asking (reporting (length sheet) place))) o
   -- "Rows go into the part of the sheet that starts at row p, and every number outside those rows stays."
-  pub written : (x : Reported) → o ≡ answered (reported x) → after ≡ withRows place (x .rows) before
-  pub refused-stays : (n : ℕ) → o ≡ refused n → after ≡ before
+  pub written : (x : Reported) → o ≡ answered (reported x) → after ≡ withRows place (x .rows) sheet
+  pub refused-stays : (n : ℕ) → o ≡ refused n → after ≡ sheet

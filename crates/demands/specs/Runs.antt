@@ -21,9 +21,9 @@ pub record OnSheet (σ : List ℕ) (d sheet place : ℕ) (o : Outcome Answer) (�
   pub only-read : τ ≡ σ
 
 -- a question that only reads the store
-pub record OnlyAsked (σ : List ℕ) (c : Call rules) (o : Outcome Answer) (τ : List ℕ) : Type 0 where
+pub record OnlyAsked (σ : List ℕ) (c : Call rules) (o : Outcome Answer) (υ : List ℕ) : Type 0 where
   pub asks : Asks σ c o
-  pub only-read : τ ≡ σ
+  pub only-read : υ ≡ σ
 
 -- what a call on the numbers σ may answer, and leave
 abbrev pub Does : List ℕ → Call rules → Outcome Answer → List ℕ → Type 0
