@@ -125,7 +125,7 @@ fn put_signed(buffer: &mut [u8], at: usize, z: i64) -> usize
 }
 
 // How far a number is from 0.
-fn magnitude(z: i64) -> u64
+pub fn magnitude(z: i64) -> u64
     ensures { λ r. ⌜ r ≡ natAbs z ⌝ }
 {
     if z < 0 {
