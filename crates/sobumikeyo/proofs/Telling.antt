@@ -1,0 +1,106 @@
+-- The promise for C from the call's own promise, for each way that its answer is taken apart. Assumes nothing.
+use Prim.Native.Nat.{ℕ}
+use mathlib.Core.Path.{_≡_, refl, sym, ap, _∙_}
+use mathlib.Core.List.{List, [], _∷_}
+use lib.IntN.{ℤ}
+use lib.Ieee.{Float}
+use Rattle.replay.specs.Machine.{atDesk, asking, roomQuestion}
+use Rattle.rules.specs.Rules.{charting}
+use Rattle.calls.specs.Refusals.{refusalNumber, roomOf, reportOf}
+use Rattle.calls.specs.Promises.{Asks, Reports}
+use Rattle.calls.specs.declared.Refusal.{Refusal}
+use Rattle.calls.specs.declared.RoomLeft.{RoomLeft}
+use Rattle.calls.specs.declared.RoomLeft.the-variants as question
+use Rattle.calls.specs.declared.ReportAnswer.{ReportAnswer}
+use Rattle.calls.specs.declared.ReportAnswer.the-variants as written
+use Rattle.chart.specs.declared.Chart.{Chart}
+use Rattle.charting.specs.Answers.{chartedOf}
+use Rattle.charting.specs.declared.ChartAnswer.{ChartAnswer}
+use Rattle.charting.specs.declared.ChartAnswer.the-variants as asked
+use Rattle.sitting_file.specs.Format.{readOf}
+use Rattle.sitting_file.specs.Format as format
+use Rattle.sitting_file.specs.declared.Refusal as file
+use Rattle.sitting_file.specs.declared.Shape.{Shape}
+use Rattle.sitting_file.specs.declared.Reading.{Reading}
+use Rattle.sitting_file.specs.declared.Reading.the-variants as reading
+use Rattle.sobumikeyo.specs.Codes.{codeOf, readCode}
+use Rattle.sobumikeyo.specs.Outputs.{leftAfter, rowsAfter, scoreAfter, shapeAfter, seenIn, firstIn, secondIn, gapIn, seenAfter, firstAfter, secondAfter, gapAfter}
+use Rattle.sobumikeyo.specs.Told.{RoomTold, ReportTold, ReadTold, ChartTold}
+
+-- ---- the room question
+module _ {s : List ℕ} {old : ℕ} (x : RoomLeft) (p : Asks s roomQuestion (roomOf x)) where
+  pub room-refused : {why : Refusal} {r : ℕ} → x ≡ question.Refused why → r ≡ refusalNumber why → RoomTold s r old old
+  room-refused e n = record {
+    answer = x;
+    promise = p;
+    number = n ∙ sym (ap (λ (a : RoomLeft). codeOf (roomOf a)) e);
+    output = sym (ap (λ (a : RoomLeft). leftAfter a old) e);
+  }
+
+  pub room-told : {left : ℕ} → x ≡ question.Contexts left → RoomTold s 0 old left
+  room-told e = record {
+    answer = x;
+    promise = p;
+    number = sym (ap (λ (a : RoomLeft). codeOf (roomOf a)) e);
+    output = sym (ap (λ (a : RoomLeft). leftAfter a old) e);
+  }
+
+-- ---- a report
+module _ {s : List ℕ} {d place : ℕ} {before after : List ℕ} {rows : ℕ} {score : ℤ} (x : ReportAnswer) (p : Reports s d place (reportOf x place after) before after) where
+  pub report-refused : {why : Refusal} {r : ℕ} → x ≡ written.Refused why → r ≡ refusalNumber why → ReportTold s d place r before after rows rows score score
+  report-refused e n = record {
+    answer = x;
+    promise = p;
+    number = n ∙ sym (ap (λ (a : ReportAnswer). codeOf (reportOf a place after)) e);
+    row-count = sym (ap (λ (a : ReportAnswer). rowsAfter a rows) e);
+    its-score = sym (ap (λ (a : ReportAnswer). scoreAfter a score) e);
+  }
+
+  -- `stored` is what was written of the value
+  pub report-told : {count : ℕ} {value stored : ℤ} → x ≡ written.Rows count value → stored ≡ value → ReportTold s d place 0 before after rows count score stored
+  report-told e z = record {
+    answer = x;
+    promise = p;
+    number = sym (ap (λ (a : ReportAnswer). codeOf (reportOf a place after)) e);
+    row-count = sym (ap (λ (a : ReportAnswer). rowsAfter a rows) e);
+    its-score = z ∙ sym (ap (λ (a : ReportAnswer). scoreAfter a score) e);
+  }
+
+-- ---- a file
+module _ {bytes old : List ℕ} (x : Reading) (p : x ≡ readOf bytes) where
+  pub read-refused : {why : file.Refusal} {r : ℕ} → x ≡ reading.Refused why → r ≡ format.refusalNumber why → ReadTold bytes r old old
+  read-refused e n =
+      let e′ = sym p ∙ e in
+      record { number = n ∙ sym (ap readCode e′); output = sym (ap (λ (a : Reading). shapeAfter a old) e′) }
+
+  pub read-told : {shape : Shape} → x ≡ reading.Accepted shape → ReadTold bytes 0 old (shape .alphabet ∷ shape .depth ∷ shape .first ∷ shape .second ∷ [])
+  read-told e =
+      let e′ = sym p ∙ e in
+      record { number = sym (ap readCode e′); output = sym (ap (λ (a : Reading). shapeAfter a old) e′) }
+
+-- ---- a chart question
+module _ {s : List ℕ} {d len code a seen : ℕ} {first second gap : Float} (x : ChartAnswer) (p : Asks s (atDesk d (asking (charting len code a))) (chartedOf x)) where
+  pub chart-refused : {why : Refusal} {r : ℕ} → x ≡ asked.Refused why → r ≡ refusalNumber why → ChartTold s d len code a r seen seen first first second second gap gap
+  chart-refused e n = record {
+    answer = x;
+    promise = p;
+    number = n ∙ sym (ap (λ (y : ChartAnswer). codeOf (chartedOf y)) e);
+    seen-by = sym (ap (λ (y : ChartAnswer). seenAfter y seen) e);
+    its-first = sym (ap (λ (y : ChartAnswer). firstAfter y first) e);
+    its-second = sym (ap (λ (y : ChartAnswer). secondAfter y second) e);
+    its-gap = sym (ap (λ (y : ChartAnswer). gapAfter y gap) e);
+  }
+
+  -- the outputs of a chart t
+  pub chart-told : {y : Chart} (t : Chart) → x ≡ asked.Answered y → y ≡ t → ChartTold s d len code a 0 seen (seenIn t) first (firstIn t first) second (secondIn t second) gap (gapIn t gap)
+  chart-told t e f =
+      let e′ : x ≡ asked.Answered t = e ∙ ap asked.Answered f in
+      record {
+        answer = x;
+        promise = p;
+        number = sym (ap (λ (y : ChartAnswer). codeOf (chartedOf y)) e′);
+        seen-by = sym (ap (λ (y : ChartAnswer). seenAfter y seen) e′);
+        its-first = sym (ap (λ (y : ChartAnswer). firstAfter y first) e′);
+        its-second = sym (ap (λ (y : ChartAnswer). secondAfter y second) e′);
+        its-gap = sym (ap (λ (y : ChartAnswer). gapAfter y gap) e′);
+      }

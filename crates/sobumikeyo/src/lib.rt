@@ -1,0 +1,205 @@
+// The library for C: slices and single numbers alone. Each call answers 0 or its refusal's number.
+ghost use mathlib.Core.Path.{_≡_};
+ghost use Rattle.replay.specs.Machine.{opening, closing, atDesk, asking};
+ghost use Rattle.rules.specs.Rules.{feed};
+ghost use Rattle.store.specs.Making.{refusalOf};
+ghost use Rattle.store.specs.Sound.{soundb};
+ghost use Rattle.desks.specs.Changes.{naming};
+ghost use Rattle.calls.specs.Refusals.{outcomeOf};
+ghost use Rattle.feeding.specs.Run.{endingOf};
+ghost use Rattle.sobumikeyo.specs.Codes.{codeOf};
+ghost use Rattle.sobumikeyo.specs.Told.{MakeTold, MoveTold, RunTold, RoomTold, ReportTold, ReadTold, ChartTold};
+use calls::ReportAnswer;
+use calls::RoomLeft;
+use calls::Verdict;
+use chart::Chart;
+use charting::ChartAnswer;
+use feeding::Ending;
+use sitting_file::Reading;
+use store::Made;
+
+// Makes a store for `room` contexts of the numbers lent, whatever they are.
+#[no_mangle]
+pub extern "C" fn sobumikeyo_make(store: &mut [u32], room: u32) -> u32
+    ensures { λ r. ⌜ MakeTold room (now (store .entry)) r (now (store .exit)) ⌝ }
+{
+    making_code(store::make(store, room))
+}
+
+// Opens a desk for an alphabet and a depth, and reserves it room.
+#[no_mangle]
+pub extern "C" fn sobumikeyo_open(
+    store: &mut [u32],
+    desk: u32,
+    alphabet: u32,
+    depth: u32,
+    reservation: u32,
+) -> u32
+    ensures { λ r. ⌜ MoveTold (now (store .entry)) (atDesk desk (opening (naming alphabet depth reservation))) r (now (store .exit)) ⌝ }
+{
+    code_of(desks::open(store, desk, alphabet, depth, reservation))
+}
+
+// One more symbol of a sample at a desk.
+#[no_mangle]
+pub extern "C" fn sobumikeyo_feed(store: &mut [u32], desk: u32, sample: u32, symbol: u32) -> u32
+    ensures { λ r. ⌜ MoveTold (now (store .entry)) (atDesk desk (asking (feed sample symbol))) r (now (store .exit)) ⌝ }
+{
+    code_of(feeding::feed(store, desk, sample, symbol))
+}
+
+// Closes a desk: the room that it reserved is free.
+#[no_mangle]
+pub extern "C" fn sobumikeyo_close(store: &mut [u32], desk: u32) -> u32
+    ensures { λ r. ⌜ MoveTold (now (store .entry)) (atDesk desk closing) r (now (store .exit)) ⌝ }
+{
+    code_of(desks::close(store, desk))
+}
+
+// Whether a lent store stands for sittings.
+#[no_mangle]
+pub extern "C" fn sobumikeyo_sound(store: &[u32]) -> bool
+    ensures { λ r. ⌜ r ≡ soundb (now (store .entry)) ⌝ }
+{
+    store::sound(store)
+}
+
+// A run of feeds to one sample: how many were accepted, and in `why` 0 or the refusal that the next feed got.
+#[no_mangle]
+pub extern "C" fn sobumikeyo_feed_all(
+    store: &mut [u32],
+    desk: u32,
+    sample: u32,
+    symbols: &[u8],
+    why: &mut u32,
+) -> u32
+    ensures { λ r. ⌜ RunTold (now (store .entry)) desk sample (now (symbols .entry)) r (now (why .exit)) (now (store .exit)) ⌝ }
+{
+    let fed = feeding::feed_all(store, desk, sample, symbols);
+    let ending = fed.ending;
+    *why = ending_code(ending);
+    fed.accepted as u32
+}
+
+// Writes a desk's report on the sheet from row `place` on, and its row count and score.
+#[no_mangle]
+pub extern "C" fn sobumikeyo_report(
+    store: &[u32],
+    desk: u32,
+    sheet: &mut [u32],
+    place: u32,
+    rows: &mut u32,
+    score: &mut i64,
+) -> u32
+    ensures { λ r. ⌜ ReportTold (now (store .entry)) desk place r (now (sheet .entry)) (now (sheet .exit)) (now (rows .entry)) (now (rows .exit)) (now (score .entry)) (now (score .exit)) ⌝ }
+{
+    match report::report(store, desk, sheet, place) {
+        ReportAnswer::Refused(why) => calls::number_of(why),
+        ReportAnswer::Rows(count, value) => {
+            *rows = count;
+            *score = value;
+            0
+        }
+    }
+}
+
+// Writes how many contexts are left.
+#[no_mangle]
+pub extern "C" fn sobumikeyo_room(store: &[u32], left: &mut u32) -> u32
+    ensures { λ r. ⌜ RoomTold (now (store .entry)) r (now (left .entry)) (now (left .exit)) ⌝ }
+{
+    match desks::room_left(store) {
+        RoomLeft::Refused(why) => calls::number_of(why),
+        RoomLeft::Contexts(n) => {
+            *left = n;
+            0
+        }
+    }
+}
+
+// Writes what an accepted sitting file announces: A, D, n and m.
+#[no_mangle]
+pub extern "C" fn sobumikeyo_read(file: &[u8], shape: &mut [u32; 4]) -> u32
+    ensures { λ r. ⌜ ReadTold (now (file .entry)) r (now (shape .entry)) (now (shape .exit)) ⌝ }
+{
+    match sitting_file::read(file) {
+        Reading::Refused(why) => sitting_file::refusal_number(why),
+        Reading::Accepted(s) => {
+            *shape = [s.alphabet, s.depth, s.first, s.second];
+            0
+        }
+    }
+}
+
+// Writes which samples saw a context, and a symbol's shares in it. A share that is not answered stays as it was.
+#[no_mangle]
+pub extern "C" fn sobumikeyo_chart(
+    store: &[u32],
+    desk: u32,
+    length: u32,
+    code: u32,
+    symbol: u32,
+    seen: &mut u32,
+    first: &mut f64,
+    second: &mut f64,
+    gap: &mut f64,
+) -> u32
+    ensures { λ r. ⌜ ChartTold (now (store .entry)) desk length code symbol r (now (seen .entry)) (now (seen .exit)) (now (first .entry)) (now (first .exit)) (now (second .entry)) (now (second .exit)) (now (gap .entry)) (now (gap .exit)) ⌝ }
+{
+    match charting::chart(store, desk, length, code, symbol) {
+        ChartAnswer::Refused(why) => calls::number_of(why),
+        ChartAnswer::Answered(chart) => {
+            match chart {
+                Chart::Neither => {
+                    *seen = 0;
+                }
+                Chart::First(share) => {
+                    *seen = 1;
+                    *first = share;
+                }
+                Chart::Second(share) => {
+                    *seen = 2;
+                    *second = share;
+                }
+                Chart::Both(point) => {
+                    *seen = 3;
+                    *first = point.first;
+                    *second = point.second;
+                    *gap = point.gap;
+                }
+            }
+            0
+        }
+    }
+}
+
+// What an opening, a feed or a closing answers, as a number.
+fn code_of(verdict: Verdict) -> u32
+    ensures { λ r. ⌜ r ≡ codeOf (outcomeOf verdict) ⌝ }
+{
+    match verdict {
+        Verdict::Done => 0,
+        Verdict::Refused(why) => calls::number_of(why),
+    }
+}
+
+// What a making answers, as a number.
+fn making_code(made: Made) -> u32
+    ensures { λ r. ⌜ r ≡ refusalOf made ⌝ }
+{
+    match made {
+        Made::Done => 0,
+        Made::RoomOutside => 17,
+        Made::StoreShort => 18,
+    }
+}
+
+// How a run of feeds ended, as a number.
+fn ending_code(ending: Ending) -> u32
+    ensures { λ r. ⌜ r ≡ codeOf (endingOf ending) ⌝ }
+{
+    match ending {
+        Ending::Whole => 0,
+        Ending::Refused(why) => calls::number_of(why),
+    }
+}

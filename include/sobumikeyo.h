@@ -1,0 +1,106 @@
+/*
+ * sobumikeyo: two samples of coded symbols side by side, and which habits they share.
+ *
+ * A sitting has two samples, 0 and 1. It is fed at a desk of a store, and up to
+ * eight desks share one store. A report splits what was seen into contexts (what
+ * came just before) that both samples treat alike and contexts that are one
+ * sample's own, writes a row for each, and scores the whole.
+ *
+ *     make, open, feed or feed_all, report and chart, close
+ *
+ * Each function answers 0, or the number of a refusal from the list below. A
+ * refused call writes nothing: store, sheet and outputs stay as they were. Where
+ * several refusals apply, the lowest number is given. Two functions answer
+ * something else: sobumikeyo_feed_all and sobumikeyo_sound.
+ *
+ * All memory is the caller's. No function allocates or keeps a pointer. A slice is
+ * a pointer and how many elements it has, not how many bytes; no pointer may be
+ * null, also where the length is 0. What is written may overlap no other argument.
+ *
+ * Link with libsobumikeyo.a. Each function is proved to answer what is said here.
+ */
+#ifndef SOBUMIKEYO_H
+#define SOBUMIKEYO_H
+
+#include <stdbool.h>
+#include <stddef.h>
+#include <stdint.h>
+
+#ifdef __cplusplus
+extern "C" {
+#endif
+
+/* The refusals of calls at a store. */
+#define SOBUMIKEYO_UNSOUND 1           /* the store does not pass sobumikeyo_sound */
+#define SOBUMIKEYO_NO_SUCH_DESK 2      /* desk above 7 */
+#define SOBUMIKEYO_ALREADY_OPEN 3      /* opening a desk that is open */
+#define SOBUMIKEYO_NOT_OPEN 4          /* any other call at a desk that is not open */
+#define SOBUMIKEYO_OUTSIDE_LIMITS 5    /* alphabet not 2 to 8, or depth above 6 */
+#define SOBUMIKEYO_BAD_RESERVATION 6   /* reservation 0, or above the store's room */
+#define SOBUMIKEYO_NO_ROOM 7           /* reservation above the room left */
+#define SOBUMIKEYO_NOT_OF_SITTING 8    /* a sample, symbol or context that the sitting cannot have */
+#define SOBUMIKEYO_SAMPLE_FULL 9       /* the sample has 512 symbols */
+#define SOBUMIKEYO_PAST_RESERVATION 10 /* the feed needs more contexts than are reserved */
+#define SOBUMIKEYO_SAMPLE_EMPTY 11     /* a report while either sample is empty */
+#define SOBUMIKEYO_SHEET_SHORT 12      /* the rows do not fit the sheet from that place on */
+
+/* The refusals of sitting files: the first fault from the left. */
+#define SOBUMIKEYO_ENDS_EARLY 13       /* the file ends before its last number does */
+#define SOBUMIKEYO_NOT_SHORTEST 14     /* a number is not in its shortest form */
+#define SOBUMIKEYO_FILE_OUTSIDE 15     /* a number is outside its limits */
+#define SOBUMIKEYO_BYTES_LEFT 16       /* there are bytes after the last symbol */
+
+/* The refusals of a making. */
+#define SOBUMIKEYO_ROOM_OUTSIDE 17     /* room not 1 to 4096 */
+#define SOBUMIKEYO_STORE_SHORT 18      /* fewer numbers than SOBUMIKEYO_STORE_SIZE(room) */
+
+/* How many numbers a store for so many contexts has. No number after them is ever written. */
+#define SOBUMIKEYO_STORE_SIZE(room) ((size_t)2048 + (size_t)24 * (room))
+
+/* How many numbers a row has: kind (0 shared, 1 first's own, 2 second's own), length, code, eight counts. */
+#define SOBUMIKEYO_ROW_WIDTH 11
+
+/* Makes a store for `room` contexts, whatever the numbers are. No desk is open. */
+uint32_t sobumikeyo_make(uint32_t *store, size_t store_len, uint32_t room);
+
+/* Opens a desk, 0 to 7, for symbols below `alphabet` and contexts of up to `depth` symbols. */
+/* Both samples are empty. The sitting may have `reservation` contexts and no more. */
+uint32_t sobumikeyo_open(uint32_t *store, size_t store_len, uint32_t desk, uint32_t alphabet, uint32_t depth, uint32_t reservation);
+
+/* One more symbol of sample 0 or 1. */
+uint32_t sobumikeyo_feed(uint32_t *store, size_t store_len, uint32_t desk, uint32_t sample, uint32_t symbol);
+
+/* Feeds the symbols in their order, up to the first that is refused; answers how many were accepted. */
+/* `why` is 0 where all were, or the refusal that the next feed got. The accepted ones stay fed. */
+/* Quicker than as many feeds: the store is tested once. */
+uint32_t sobumikeyo_feed_all(uint32_t *store, size_t store_len, uint32_t desk, uint32_t sample, const uint8_t *symbols, size_t symbols_len, uint32_t *why);
+
+/* Closes a desk. What it reserved is free for any later opening. */
+uint32_t sobumikeyo_close(uint32_t *store, size_t store_len, uint32_t desk);
+
+/* How many contexts are left to reserve. Only refusal 1 applies. */
+uint32_t sobumikeyo_room(const uint32_t *store, size_t store_len, uint32_t *left);
+
+/* Writes the report's rows from row `place` of the sheet on; no number outside those rows is written. */
+/* `rows` is how many there are, and `score` the doubled score, which is never above 0. */
+/* A row's code is the sum of symbol times 8^j, where j is 0 for the most recent symbol of its context. */
+uint32_t sobumikeyo_report(const uint32_t *store, size_t store_len, uint32_t desk, uint32_t *sheet, size_t sheet_len, uint32_t place, uint32_t *rows, int64_t *score);
+
+/* How often, of the times that a sample saw the context of that length and code, the symbol came next. */
+/* `seen` is 0 where neither sample saw the context, 1 the first alone, 2 the second alone, 3 both. */
+/* `first` and `second` are the shares of the samples that saw it; `gap`, first less second, only where both did. */
+/* A share that is not answered stays as it was. */
+uint32_t sobumikeyo_chart(const uint32_t *store, size_t store_len, uint32_t desk, uint32_t length, uint32_t code, uint32_t symbol, uint32_t *seen, double *first, double *second, double *gap);
+
+/* Reads a sitting file. `shape` gets its alphabet, its depth and the lengths n and m of its samples. */
+/* The symbols are then the file's last n + m bytes, one each, the first sample's before the second's. */
+uint32_t sobumikeyo_read(const uint8_t *file, size_t file_len, uint32_t shape[4]);
+
+/* Whether the numbers are a store: those that refusal 1 is not given for. Every store that calls have left is one. */
+bool sobumikeyo_sound(const uint32_t *store, size_t store_len);
+
+#ifdef __cplusplus
+}
+#endif
+
+#endif
