@@ -41,7 +41,7 @@ class Language(unittest.TestCase):
 class Kept(unittest.TestCase):
     def test_answers(self):
         scripts = sorted(SCRIPTS.glob("*.script"))
-        self.assertEqual(len(scripts), 4)
+        self.assertEqual(len(scripts), 5)
         for path in scripts:
             printed = "".join(line + "\n" for lines in play(path.read_text()) for line in lines)
             self.assertEqual(printed, path.with_suffix(".answers").read_text(), path.name)

@@ -49,12 +49,13 @@ const FEED_ALL: u32 = 8;
 const RUN_SYMBOLS: usize = 1024;
 
 // Plays the whole script. Before the first making its calls lend all the numbers.
+// Every call goes on past its opcode; the test of that is what shows that the play ends.
 pub fn play(script: &[u8], store: &mut [u32]) {
     let mut at = first_digit(script, 0);
     let mut lent = store.len();
     while at < script.len() {
         let step = play_call(script, at, store, lent);
-        let next = step.next;
+        let next = first_digit(script, step.next);
         if next <= at {
             return;
         }
@@ -77,11 +78,8 @@ fn play_call(script: &[u8], at: usize, store: &mut [u32], lent: usize) -> Step {
         };
     }
     let many = within(lent, store);
-    let end = play_at_store(script, opcode.next, call, &mut store[..many]);
-    Step {
-        next: first_digit(script, end),
-        lent,
-    }
+    let next = play_at_store(script, opcode.next, call, &mut store[..many]);
+    Step { next, lent }
 }
 
 // Plays a call other than a making or a spoil. A number that no call has ends the script.
@@ -105,7 +103,7 @@ fn play_at_store(script: &[u8], at: usize, call: u32, store: &mut [u32]) -> usiz
 fn play_make(script: &[u8], at: usize, store: &mut [u32], lent: usize) -> Step {
     let room = number_at(script, at);
     let length = number_at(script, room.next);
-    let next = first_digit(script, length.next);
+    let next = length.next;
     let many = within(length.value as usize, store);
     match make(&mut store[..many], room.value) {
         Made::Done => {
@@ -129,7 +127,7 @@ fn play_spoil(script: &[u8], at: usize, store: &mut [u32]) -> usize {
     let number = number_at(script, place.next);
     spoil(store, place.value as usize, number.value);
     say(b"done\n");
-    first_digit(script, number.next)
+    number.next
 }
 
 fn spoil(store: &mut [u32], place: usize, number: u32) {

@@ -12,6 +12,7 @@ ghost use Prim.Native.Nat.{_≤_};
 // What each number of the sheet is before a report.
 const BLANK: u32 = 4294967295;
 
+// The longest sheet: 512 rows.
 const SHEET_NUMBERS: usize = 5632;
 
 const ROW_WIDTH: usize = 11;
@@ -56,7 +57,7 @@ fn report_on(store: &[u32], desk: u32, sheet: &mut [u32], place: u32) {
     }
 }
 
-// A line for each row, from a row's place on.
+// A line for each row, from a row's place on, as far as the sheet has whole rows.
 fn say_rows(sheet: &[u32], place: usize, rows: usize) {
     let mut k: usize = 0;
     let whole = sheet.len() / ROW_WIDTH;

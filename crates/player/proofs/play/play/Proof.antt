@@ -1,4 +1,4 @@
--- `player::play::play` is safe and ends. Assumes nothing.
+-- `player::play::play` is safe and ends: each call goes on past its opcode, and the store keeps its length. Assumes nothing.
 use mathlib.Core.Path.{_≡_}
 use Prim.Native.Nat.{_-_}
 use lib.ListN.{length}
@@ -20,6 +20,9 @@ loop-holds c = search needs
 
 play-call-requires : tie.Need-play-call-requires Inv-loop μ-loop
 play-call-requires c κs = search needs
+
+first-digit-requires-2 : tie.Need-first-digit-requires-2 Inv-loop μ-loop
+first-digit-requires-2 c κs = search needs
 
 same-length : tie.Need-same-length Inv-loop μ-loop
 same-length c = search needs
@@ -48,6 +51,7 @@ play-spec =
     first-digit-requires
     loop-holds
     play-call-requires
+    first-digit-requires-2
     same-length
     returns
     loop-less
