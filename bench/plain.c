@@ -1,0 +1,137 @@
+#include "plain.h"
+#include <math.h>
+#include <string.h>
+
+static int64_t weight[1025]; // n times L(n)
+static int64_t L[1025];
+
+void plain_logarithms(void) {
+    for (int n = 1; n <= 1024; n++) {
+        L[n] = (int64_t)floorl(1024 * log2l(n));
+        weight[n] = n * L[n];
+    }
+}
+
+void plain_start(trie *t, uint32_t alphabet, uint32_t depth) {
+    t->alphabet = alphabet;
+    t->depth = depth;
+    t->used = 1;
+    t->size[0] = t->size[1] = 0;
+    memset(&t->nodes[0], 0, sizeof(node));
+}
+
+static uint32_t child_of(trie *t, uint32_t at, uint8_t symbol) {
+    uint32_t child = t->nodes[at].child[symbol];
+    if (child) return child;
+    child = t->used++;
+    memset(&t->nodes[child], 0, sizeof(node));
+    return t->nodes[at].child[symbol] = child;
+}
+
+void plain_feed_all(trie *t, uint32_t sample, const uint8_t *symbols, uint32_t many) {
+    uint8_t *text = t->text[sample];
+    for (uint32_t i = 0; i < many; i++) {
+        uint32_t size = t->size[sample]++, at = 0;
+        uint32_t deep = size < t->depth ? size : t->depth;
+        t->nodes[0].count[sample][symbols[i]]++;
+        for (uint32_t j = 1; j <= deep; j++) {
+            at = child_of(t, at, text[size - j]);
+            t->nodes[at].count[sample][symbols[i]]++;
+        }
+        text[size] = symbols[i];
+    }
+}
+
+// ---- the report
+
+// Of both trees together, of the first alone and of the second alone: the least loss and how many rows.
+typedef struct {
+    int64_t loss[3];
+    uint32_t rows[3];
+} best;
+
+// What a context costs: shared, the first's own, the second's own.
+static int64_t costs[3];
+
+static int64_t spread(const uint32_t *count, const uint32_t *other, uint32_t alphabet) {
+    int64_t sum = 0;
+    uint32_t total = 0;
+    for (uint32_t a = 0; a < alphabet; a++) {
+        uint32_t c = count[a] + (other ? other[a] : 0);
+        sum += weight[c];
+        total += c;
+    }
+    return 2 * (weight[total] - sum);
+}
+
+// The leaf, or the children where they lose less. Ties: shared leaf, two separate trees, split of both; leaf before split.
+static best decide(node *n, const int64_t own[3], const best *below) {
+    best b = {{own[0], own[1], own[2]}, {1, 1, 1}};
+    uint8_t joint = 0, split[2] = {0, 0};
+    for (int k = 1; k < 3; k++) {
+        if (!below || own[k] <= below->loss[k]) continue;
+        split[k - 1] = 1;
+        b.loss[k] = below->loss[k];
+        b.rows[k] = below->rows[k];
+    }
+    int64_t apart = b.loss[1] + b.loss[2];
+    if (apart < b.loss[0]) b.loss[0] = apart, b.rows[0] = b.rows[1] + b.rows[2], joint = 1;
+    if (below && below->loss[0] < b.loss[0]) b.loss[0] = below->loss[0], b.rows[0] = below->rows[0], joint = 2;
+    if (n) n->joint = joint, n->split[0] = split[0], n->split[1] = split[1];
+    return b;
+}
+
+static best weigh(trie *t, node *n, uint32_t left, const best *unseen) {
+    int64_t own[3] = {costs[0] + spread(n->count[0], n->count[1], t->alphabet),
+                      costs[1] + spread(n->count[0], 0, t->alphabet), costs[2] + spread(n->count[1], 0, t->alphabet)};
+    if (left == 0) return decide(n, own, 0);
+    best below = {{0, 0, 0}, {0, 0, 0}};
+    for (uint32_t a = 0; a < t->alphabet; a++) {
+        uint32_t c = n->child[a];
+        best b = c ? weigh(t, &t->nodes[c], left - 1, unseen) : *unseen;
+        for (int k = 0; k < 3; k++) below.loss[k] += b.loss[k], below.rows[k] += b.rows[k];
+    }
+    return decide(n, own, &below);
+}
+
+static uint32_t *put(uint32_t *to, uint32_t kind, uint32_t length, uint32_t code, const node *n) {
+    to[0] = kind;
+    to[1] = length;
+    to[2] = code;
+    for (int a = 0; a < 8; a++) {
+        if (kind == 0) to[3 + a] = n->count[0][a] + n->count[1][a];
+        else to[3 + a] = n->count[kind - 1][a];
+    }
+    return to + 11;
+}
+
+// `joint`: both trees are wanted; else `own` says which of the own trees go on.
+static uint32_t *write(trie *t, uint32_t *to, const node *n, uint32_t length, uint32_t code, int joint, int first,
+                       int second) {
+    if (joint && n->joint == 0) return put(to, 0, length, code, n);
+    if (joint && n->joint == 1) joint = 0, first = second = 1;
+    if (!joint) {
+        if (first && !n->split[0]) to = put(to, 1, length, code, n), first = 0;
+        if (second && !n->split[1]) to = put(to, 2, length, code, n), second = 0;
+        if (!first && !second) return to;
+    }
+    for (uint32_t a = 0; a < t->alphabet; a++) {
+        uint32_t c = n->child[a];
+        const node *child = c ? &t->nodes[c] : &t->nodes[8191];
+        to = write(t, to, child, length + 1, code + (a << 3 * length), joint, first, second);
+    }
+    return to;
+}
+
+uint32_t plain_report(trie *t, uint32_t *sheet, int64_t *score) {
+    costs[0] = (t->alphabet - 1) * L[t->size[0] + t->size[1]];
+    costs[1] = (t->alphabet - 1) * L[t->size[0]];
+    costs[2] = (t->alphabet - 1) * L[t->size[1]];
+    node *none = &t->nodes[8191]; // stands for every context that is not held
+    memset(none, 0, sizeof *none);
+    best unseen = decide(none, costs, 0);
+    best b = weigh(t, &t->nodes[0], t->depth, &unseen);
+    write(t, sheet, &t->nodes[0], 0, 0, 1, 0, 0);
+    *score = -b.loss[0];
+    return b.rows[0];
+}

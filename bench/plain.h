@@ -1,0 +1,22 @@
+// The same sittings in plain C with no checks at all: a trie in an array, and the report by recursion over it.
+#pragma once
+#include <stdint.h>
+
+typedef struct {
+    uint32_t count[2][8];
+    uint32_t child[8]; // by the next older symbol; 0 is none
+    uint8_t joint, split[2];
+} node;
+
+typedef struct {
+    uint32_t alphabet, depth, used, size[2];
+    uint8_t text[2][512];
+    node nodes[8192]; // the root is 0
+} trie;
+
+void plain_start(trie *t, uint32_t alphabet, uint32_t depth);
+void plain_feed_all(trie *t, uint32_t sample, const uint8_t *symbols, uint32_t many);
+// Writes the rows at the beginning of the sheet; answers how many.
+uint32_t plain_report(trie *t, uint32_t *sheet, int64_t *score);
+// Computes the logarithms. To be called once.
+void plain_logarithms(void);
