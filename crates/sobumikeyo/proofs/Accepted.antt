@@ -1,12 +1,13 @@
 -- A 0 always means accepted, since each refusal's number is above 0; any other number is a refusal's, which leaves the outputs. Assumes nothing.
 use Prim.Native.Nat.{ℕ, suc, _<_}
-use mathlib.Core.Path.{_≡_, sym, ap, ap₂, subst}
-use mathlib.Core.List.{List}
+use mathlib.Core.Path.{_≡_, refl, sym, ap, ap₂, subst}
+use mathlib.Core.List.{List, [], _∷_}
 use native.Mathlib.Omega.{arith}
 use lib.IntN.{ℤ}
+use lib.Ieee.{Float}
 use Rattle.replay.specs.Table.{Outcome, refused, answered}
-use Rattle.replay.specs.Machine.{Call, roomQuestion}
-use Rattle.rules.specs.Rules.{Answer, done, room, rules}
+use Rattle.replay.specs.Machine.{Call, atDesk, asking, roomQuestion}
+use Rattle.rules.specs.Rules.{Answer, done, room, point, charting, rules}
 use Rattle.store.specs.Making.{Makes, refusalOf}
 use Rattle.store.specs.declared.Made.{Made}
 use Rattle.store.specs.declared.Made.the-variants as making
@@ -23,12 +24,20 @@ use Rattle.calls.specs.declared.ReportAnswer.the-variants as written
 use Rattle.feeding.specs.Run.{Runs, endingOf}
 use Rattle.feeding.specs.declared.Ending.{Ending}
 use Rattle.feeding.specs.declared.Ending.the-variants as ending
+use Rattle.chart.specs.declared.Chart.{Chart}
+use Rattle.charting.specs.Answers.{chartedOf}
+use Rattle.charting.specs.declared.ChartAnswer.{ChartAnswer}
+use Rattle.charting.specs.declared.ChartAnswer.the-variants as asked
+use Rattle.sitting_file.specs.Format.{readOf}
 use Rattle.sitting_file.specs.Format as format
+use Rattle.sitting_file.specs.declared.Shape.{Shape}
+use Rattle.sitting_file.specs.declared.Reading.{Reading}
+use Rattle.sitting_file.specs.declared.Reading.the-variants as reading
 use Rattle.sitting_file.specs.declared.Refusal as file
 use Rattle.sitting_file.specs.declared.Refusal.the-variants as fault
-use Rattle.sobumikeyo.specs.Codes.{codeOf}
-use Rattle.sobumikeyo.specs.Outputs.{leftAfter, rowsAfter, scoreAfter}
-use Rattle.sobumikeyo.specs.Told.{MakeTold, MoveTold, RunTold, RoomTold, ReportTold}
+use Rattle.sobumikeyo.specs.Codes.{codeOf, readCode}
+use Rattle.sobumikeyo.specs.Outputs.{leftAfter, rowsAfter, scoreAfter, shapeAfter, seenIn, firstIn, secondIn, gapIn, seenAfter, firstAfter, secondAfter, gapAfter}
+use Rattle.sobumikeyo.specs.Told.{MakeTold, MoveTold, RunTold, RoomTold, ReportTold, ReadTold, ChartTold}
 
 -- THEOREM. No refusal has the number 0
 pub above-zero : (why : Refusal) → 0 < refusalNumber why
@@ -127,3 +136,50 @@ module _ {s : List ℕ} {d place : ℕ} {before after : List ℕ} {old rows : �
           → Reports s d place (refused (suc n)) before after × (rows ≡ old) × (score ≡ was)
       go (written.Rows k z) p e f g = absurd (omega (arith, e))
       go (written.Refused why) p e f g = (subst (λ (k : ℕ). Reports s d place (refused k) before after) (sym e) p, f, g)
+
+-- ---- a chart question: the chart that was answered, and its outputs
+pub record Charted (s : List ℕ) (d len code a seen : ℕ) (first first′ second second′ gap gap′ : Float) : Type 0 where
+  pub chart : Chart
+  pub asks : Asks s (atDesk d (asking (charting len code a))) (answered (point chart))
+  pub seen-by : seen ≡ seenIn chart
+  pub its-first : first′ ≡ firstIn chart first
+  pub its-second : second′ ≡ secondIn chart second
+  pub its-gap : gap′ ≡ gapIn chart gap
+
+module _ {s : List ℕ} {d len code a old seen : ℕ} {first first′ second second′ gap gap′ : Float} where
+  pub chart-accepted : ChartTold s d len code a 0 old seen first first′ second second′ gap gap′ → Charted s d len code a seen first first′ second second′ gap gap′
+  chart-accepted m = go (m .answer) (m .promise) (m .number) (m .seen-by) (m .its-first) (m .its-second) (m .its-gap)
+    where
+      go : (x : ChartAnswer) → Asks s (atDesk d (asking (charting len code a))) (chartedOf x) → 0 ≡ codeOf (chartedOf x)
+          → seen ≡ seenAfter x old → first′ ≡ firstAfter x first → second′ ≡ secondAfter x second → gap′ ≡ gapAfter x gap → Charted s d len code a seen first first′ second second′ gap gap′
+      go (asked.Answered t) p e f g h k = record { chart = t; asks = p; seen-by = f; its-first = g; its-second = h; its-gap = k }
+      go (asked.Refused why) p e f g h k = not-refused why e
+
+  pub chart-refused : {n : ℕ} → ChartTold s d len code a (suc n) old seen first first′ second second′ gap gap′ → (seen ≡ old) × (first′ ≡ first) × (second′ ≡ second) × (gap′ ≡ gap)
+  chart-refused {n} m = go (m .answer) (m .number) (m .seen-by) (m .its-first) (m .its-second) (m .its-gap)
+    where
+      go : (x : ChartAnswer) → suc n ≡ codeOf (chartedOf x) → seen ≡ seenAfter x old → first′ ≡ firstAfter x first → second′ ≡ secondAfter x second → gap′ ≡ gapAfter x gap
+          → (seen ≡ old) × (first′ ≡ first) × (second′ ≡ second) × (gap′ ≡ gap)
+      go (asked.Answered t) e f g h k = absurd (omega (arith, e))
+      go (asked.Refused why) e f g h k = (f, g, h, k)
+
+-- ---- a file: what it announces
+pub record Announced (bytes new : List ℕ) : Type 0 where
+  pub shape : Shape
+  pub accepted : readOf bytes ≡ reading.Accepted shape
+  pub output : new ≡ shape .alphabet ∷ shape .depth ∷ shape .first ∷ shape .second ∷ []
+
+module _ {bytes old new : List ℕ} where
+  pub read-accepted : ReadTold bytes 0 old new → Announced bytes new
+  read-accepted m = go (readOf bytes) refl (m .number) (m .output)
+    where
+      go : (x : Reading) → readOf bytes ≡ x → 0 ≡ readCode x → new ≡ shapeAfter x old → Announced bytes new
+      go (reading.Accepted x) p e f = record { shape = x; accepted = p; output = f }
+      go (reading.Refused why) p e f = absurd (omega (arith, fault-above-zero why, e))
+
+  pub read-refused : {n : ℕ} → ReadTold bytes (suc n) old new → new ≡ old
+  read-refused {n} m = go (readOf bytes) (m .number) (m .output)
+    where
+      go : (x : Reading) → suc n ≡ readCode x → new ≡ shapeAfter x old → new ≡ old
+      go (reading.Accepted x) e f = absurd (omega (arith, e))
+      go (reading.Refused why) e f = f

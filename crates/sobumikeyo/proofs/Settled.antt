@@ -131,11 +131,12 @@ room-one {s} {r} {q} {old} m n =
 pub report-one : {s : List ℕ} {d place r q : ℕ} {before x y : List ℕ} {old rows rows′ : ℕ} {was score score′ : ℤ}
     → ReportTold s d place r before x old rows was score → ReportTold s d place q before y old rows′ was score′ → (r ≡ q) × (x ≡ y) × (rows ≡ rows′) × (score ≡ score′)
 report-one {s} {d} {place} {r} {q} {before} {x} {y} {old} {rows} {rows′} {was} m n =
-    let e = reports-settled s d place (reportOf (m .answer) place x) (reportOf (n .answer) place y) before x y (m .promise) (n .promise) in
-    (m .number ∙ ap codeOf (e .0) ∙ sym (n .number),
-     e .1,
-     both rowsIn old (e .0) (m .row-count) (rows-from (m .answer) place x old) (n .row-count) (rows-from (n .answer) place y old),
-     both scoreIn was (e .0) (m .its-score) (score-from (m .answer) place x was) (n .its-score) (score-from (n .answer) place y was))
+    let e = reports-settled s d place (reportOf (m .answer) place x) (reportOf (n .answer) place y) before x y (m .promise) (n .promise) in (
+      m .number ∙ ap codeOf (e .0) ∙ sym (n .number),
+      e .1,
+      both rowsIn old (e .0) (m .row-count) (rows-from (m .answer) place x old) (n .row-count) (rows-from (n .answer) place y old),
+      both scoreIn was (e .0) (m .its-score) (score-from (m .answer) place x was) (n .its-score) (score-from (n .answer) place y was),
+    )
 
 pub read-one : {bytes : List ℕ} {r q : ℕ} {old x y : List ℕ} → ReadTold bytes r old x → ReadTold bytes q old y → (r ≡ q) × (x ≡ y)
 read-one m n = (m .number ∙ sym (n .number), m .output ∙ sym (n .output))
@@ -145,9 +146,10 @@ module _ {s : List ℕ} {d len code a r q old seen seen′ : ℕ} {u first first
   pub chart-one : ChartTold s d len code a r old seen u first v second w gap → ChartTold s d len code a q old seen′ u first′ v second′ w gap′
       → (r ≡ q) × (seen ≡ seen′) × (first ≡ first′) × (second ≡ second′) × (gap ≡ gap′)
   chart-one m n =
-      let e = asks-settled s (atDesk d (asking (charting len code a))) (chartedOf (m .answer)) (chartedOf (n .answer)) (m .promise) (n .promise) in
-      (m .number ∙ ap codeOf e ∙ sym (n .number),
-       both (charted (λ (t : Chart) (was : ℕ). seenIn t)) old e (m .seen-by) (seen-from (m .answer) old) (n .seen-by) (seen-from (n .answer) old),
-       both (charted firstIn) u e (m .its-first) (first-from (m .answer) u) (n .its-first) (first-from (n .answer) u),
-       both (charted secondIn) v e (m .its-second) (second-from (m .answer) v) (n .its-second) (second-from (n .answer) v),
-       both (charted gapIn) w e (m .its-gap) (gap-from (m .answer) w) (n .its-gap) (gap-from (n .answer) w))
+      let e = asks-settled s (atDesk d (asking (charting len code a))) (chartedOf (m .answer)) (chartedOf (n .answer)) (m .promise) (n .promise) in (
+        m .number ∙ ap codeOf e ∙ sym (n .number),
+        both (charted (λ (t : Chart) (was : ℕ). seenIn t)) old e (m .seen-by) (seen-from (m .answer) old) (n .seen-by) (seen-from (n .answer) old),
+        both (charted firstIn) u e (m .its-first) (first-from (m .answer) u) (n .its-first) (first-from (n .answer) u),
+        both (charted secondIn) v e (m .its-second) (second-from (m .answer) v) (n .its-second) (second-from (n .answer) v),
+        both (charted gapIn) w e (m .its-gap) (gap-from (m .answer) w) (n .its-gap) (gap-from (n .answer) w),
+      )
