@@ -17,7 +17,8 @@
  * a pointer and how many elements it has, not how many bytes; no pointer may be
  * null, also where the length is 0. What is written may overlap no other argument.
  *
- * Link with libsobumikeyo.a. Each function is proved to answer what is said here.
+ * Link with libsobumikeyo.a. What each function promises is written down in
+ * crates/sobumikeyo/specs/Told.antt, and its code is proved to keep it.
  */
 #ifndef SOBUMIKEYO_H
 #define SOBUMIKEYO_H

@@ -1,15 +1,14 @@
 -- A run has at most 512 accepted feeds: each leaves its sample longer by one, and a full sample takes no more. Assumes nothing.
-use Prim.Native.Nat.{ℕ, zero, suc, _+_, _-_, _≤_, _<_}
-use mathlib.Core.Path.{_≡_, refl, sym, ap, _∙_}
-use mathlib.Core.Bool.{Bool, true, false, cond}
+use Prim.Native.Nat.{ℕ, suc, _-_, _≤_, _<_}
+use mathlib.Core.Path.{_≡_, refl, sym, ap}
+use mathlib.Core.Bool.{Bool, true, false}
 use mathlib.Core.List.{List, [], _∷_}
 use native.Mathlib.Omega.{arith}
-use lib.Dec.{leb, eqb}
-use Rattle.numbers.specs.Limits.{longest, desks}
+use Rattle.numbers.specs.Limits.{longest}
 use Rattle.numbers.specs.Sum.{one}
 use Rattle.contexts.specs.Sitting.{Progress, Sample, first, second, sampleOf, sameSample}
 use Rattle.replay.specs.Room.{Room, Desk, closed, opened}
-use Rattle.replay.specs.Table.{Outcome, refused, answered, verdictOf, NoneApplies}
+use Rattle.replay.specs.Table.{Outcome, refused, answered, NoneApplies}
 use Rattle.replay.specs.Machine.{asking, verdict, move, shift, settle, put, moved, tableOf, tableAt, askingTable, ownLines, answerOf}
 use Rattle.replay.proofs.Tables.{answers-none}
 use Rattle.rules.specs.Rules.{Answer, feed, rules, linesOf, nextOf}

@@ -1,3 +1,4 @@
 pub mod Telling
 pub mod FewFeeds
 pub mod Accepted
+pub mod Settled

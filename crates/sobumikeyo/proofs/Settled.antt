@@ -1,0 +1,155 @@
+-- Whatever the promises for C allow has one number and one set of outputs. Assumes nothing.
+use Prim.Native.Nat.{ℕ, zero, suc, _*_}
+use mathlib.Core.Path.{_≡_, refl, sym, ap, _∙_}
+use mathlib.Core.Bool.{Bool, true, false}
+use mathlib.Core.List.{List}
+use lib.ListN.{length, drop}
+use lib.IntN.{ℤ}
+use lib.Ieee.{Float}
+use Rattle.replay.specs.Table.{Outcome, refused, answered}
+use Rattle.replay.specs.Machine.{Call, atDesk, asking, roomQuestion}
+use Rattle.rows.specs.Rows.{rowWidth, readRows}
+use Rattle.rules.specs.Rules.{Answer, done, room, reported, point, charting, rules}
+use Rattle.store.specs.Sound.{soundb}
+use Rattle.store.specs.Making.{refusalOf}
+use Rattle.chart.specs.declared.Chart.{Chart}
+use Rattle.calls.specs.Refusals.{outcomeOf, roomOf, reportOf}
+use Rattle.calls.specs.declared.RoomLeft.{RoomLeft}
+use Rattle.calls.specs.declared.RoomLeft.the-variants as question
+use Rattle.calls.specs.declared.ReportAnswer.{ReportAnswer}
+use Rattle.calls.specs.declared.ReportAnswer.the-variants as written
+use Rattle.calls.proofs.Settled.{moves-settled, asks-settled, reports-settled}
+use Rattle.feeding.specs.Run.{Runs, endingOf}
+use Rattle.charting.specs.Answers.{chartedOf}
+use Rattle.charting.specs.declared.ChartAnswer.{ChartAnswer}
+use Rattle.charting.specs.declared.ChartAnswer.the-variants as asked
+use Rattle.sobumikeyo.specs.Codes.{codeOf}
+use Rattle.sobumikeyo.specs.Outputs.{leftAfter, rowsAfter, scoreAfter, seenIn, firstIn, secondIn, gapIn, seenAfter, firstAfter, secondAfter, gapAfter}
+use Rattle.sobumikeyo.specs.Told.{MakeTold, MoveTold, RunTold, RoomTold, ReportTold, ReadTold, ChartTold}
+
+-- ---- calls that change a store
+pub make-one : {K : ℕ} {s : List ℕ} {r q : ℕ} {x y : List ℕ} → MakeTold K s r x → MakeTold K s q y → r ≡ q
+make-one m n = m .number ∙ ap refusalOf (m .promise .answered ∙ sym (n .promise .answered)) ∙ sym (n .number)
+
+pub move-one : {s : List ℕ} {c : Call rules} {r q : ℕ} {x y : List ℕ} → MoveTold s c r x → MoveTold s c q y → r ≡ q
+move-one {s} {c} {r} {q} {x} {y} m n =
+    m .number ∙ ap codeOf (moves-settled s c (outcomeOf (m .answer)) (outcomeOf (n .answer)) x y (m .promise) (n .promise) .answer) ∙ sym (n .number)
+
+module _ {s symbols : List ℕ} {d k : ℕ} where
+  ends-one : {r q : ℕ} {x y : List ℕ} (o p : Outcome Answer) → Runs s d k symbols r o x → Runs s d k symbols q p y → (r ≡ q) × (o ≡ p)
+  ends-one {r} {q} o p m n = go (soundb s) refl
+    where
+      go : (b : Bool) → soundb s ≡ b → (r ≡ q) × (o ≡ p)
+      go true e = (m .accepts e ∙ sym (n .accepts e), m .ends e ∙ sym (n .ends e))
+      go false e = (m .unsound e .0 ∙ sym (n .unsound e .0), m .unsound e .1 ∙ sym (n .unsound e .1))
+
+  pub run-one : {r q why how : ℕ} {x y : List ℕ} → RunTold s d k symbols r why x → RunTold s d k symbols q how y → (r ≡ q) × (why ≡ how)
+  run-one m n =
+      let e = ends-one (endingOf (m .ending)) (endingOf (n .ending)) (m .promise) (n .promise) in
+      (e .0, m .number ∙ ap codeOf (e .1) ∙ sym (n .number))
+
+-- ---- questions: an output is what the outcome has for it, or what stood there
+module _ {B : Type 0} where
+  unfoldable from : (Answer → B → B) → Outcome Answer → B → B
+  from f (answered x) old = f x old
+  from f (refused n) old = old
+
+  unfoldable charted : (Chart → B → B) → Answer → B → B
+  charted f done old = old
+  charted f (room n) old = old
+  charted f (reported x) old = old
+  charted f (point x) old = f x old
+
+unfoldable leftIn : Answer → ℕ → ℕ
+leftIn done old = old
+leftIn (room n) old = n
+leftIn (reported x) old = old
+leftIn (point x) old = old
+
+unfoldable rowsIn : Answer → ℕ → ℕ
+rowsIn done old = old
+rowsIn (room n) old = old
+rowsIn (reported x) old = length (x .rows)
+rowsIn (point x) old = old
+
+unfoldable scoreIn : Answer → ℤ → ℤ
+scoreIn done old = old
+scoreIn (room n) old = old
+scoreIn (reported x) old = x .score
+scoreIn (point x) old = old
+
+left-from : (x : RoomLeft) (old : ℕ) → leftAfter x old ≡ from leftIn (roomOf x) old
+unfolding from leftIn
+left-from (question.Contexts n) old = refl
+left-from (question.Refused why) old = refl
+
+rows-read : (n : ℕ) (l : List ℕ) → n ≡ length (readRows n l)
+unfolding readRows
+rows-read zero l = refl
+rows-read (suc n) l = ap suc (rows-read n (drop rowWidth l))
+
+rows-from : (x : ReportAnswer) (place : ℕ) (sheet : List ℕ) (old : ℕ) → rowsAfter x old ≡ from rowsIn (reportOf x place sheet) old
+unfolding from rowsIn
+rows-from (written.Rows n z) place sheet old = rows-read n (drop (rowWidth * place) sheet)
+rows-from (written.Refused why) place sheet old = refl
+
+score-from : (x : ReportAnswer) (place : ℕ) (sheet : List ℕ) (old : ℤ) → scoreAfter x old ≡ from scoreIn (reportOf x place sheet) old
+unfolding from scoreIn
+score-from (written.Rows n z) place sheet old = refl
+score-from (written.Refused why) place sheet old = refl
+
+seen-from : (x : ChartAnswer) (old : ℕ) → seenAfter x old ≡ from (charted (λ (t : Chart) (was : ℕ). seenIn t)) (chartedOf x) old
+unfolding from charted
+seen-from (asked.Answered t) old = refl
+seen-from (asked.Refused why) old = refl
+
+first-from : (x : ChartAnswer) (old : Float) → firstAfter x old ≡ from (charted firstIn) (chartedOf x) old
+unfolding from charted
+first-from (asked.Answered t) old = refl
+first-from (asked.Refused why) old = refl
+
+second-from : (x : ChartAnswer) (old : Float) → secondAfter x old ≡ from (charted secondIn) (chartedOf x) old
+unfolding from charted
+second-from (asked.Answered t) old = refl
+second-from (asked.Refused why) old = refl
+
+gap-from : (x : ChartAnswer) (old : Float) → gapAfter x old ≡ from (charted gapIn) (chartedOf x) old
+unfolding from charted
+gap-from (asked.Answered t) old = refl
+gap-from (asked.Refused why) old = refl
+
+-- two outputs that stand so to one outcome
+both : {B : Type 0} (f : Answer → B → B) (old : B) {o p : Outcome Answer} {x y x′ y′ : B} → o ≡ p → x ≡ x′ → x′ ≡ from f o old → y ≡ y′ → y′ ≡ from f p old → x ≡ y
+both f old e a b c d = a ∙ b ∙ ap (λ (o : Outcome Answer). from f o old) e ∙ sym (c ∙ d)
+
+pub room-one : {s : List ℕ} {r q old x y : ℕ} → RoomTold s r old x → RoomTold s q old y → (r ≡ q) × (x ≡ y)
+room-one {s} {r} {q} {old} m n =
+    let e = asks-settled s roomQuestion (roomOf (m .answer)) (roomOf (n .answer)) (m .promise) (n .promise) in
+    (m .number ∙ ap codeOf e ∙ sym (n .number), both leftIn old e (m .output) (left-from (m .answer) old) (n .output) (left-from (n .answer) old))
+
+-- a report has one number, one sheet, one row count and one score
+pub report-one : {s : List ℕ} {d place r q : ℕ} {before x y : List ℕ} {old rows rows′ : ℕ} {was score score′ : ℤ}
+    → ReportTold s d place r before x old rows was score → ReportTold s d place q before y old rows′ was score′ → (r ≡ q) × (x ≡ y) × (rows ≡ rows′) × (score ≡ score′)
+report-one {s} {d} {place} {r} {q} {before} {x} {y} {old} {rows} {rows′} {was} m n =
+    let e = reports-settled s d place (reportOf (m .answer) place x) (reportOf (n .answer) place y) before x y (m .promise) (n .promise) in (
+      m .number ∙ ap codeOf (e .0) ∙ sym (n .number),
+      e .1,
+      both rowsIn old (e .0) (m .row-count) (rows-from (m .answer) place x old) (n .row-count) (rows-from (n .answer) place y old),
+      both scoreIn was (e .0) (m .its-score) (score-from (m .answer) place x was) (n .its-score) (score-from (n .answer) place y was),
+    )
+
+pub read-one : {bytes : List ℕ} {r q : ℕ} {old x y : List ℕ} → ReadTold bytes r old x → ReadTold bytes q old y → (r ≡ q) × (x ≡ y)
+read-one m n = (m .number ∙ sym (n .number), m .output ∙ sym (n .output))
+
+-- what a chart question leaves: its number, which samples saw the context, and the three outputs
+module _ {s : List ℕ} {d len code a r q old seen seen′ : ℕ} {u first first′ v second second′ w gap gap′ : Float} where
+  pub chart-one : ChartTold s d len code a r old seen u first v second w gap → ChartTold s d len code a q old seen′ u first′ v second′ w gap′
+      → (r ≡ q) × (seen ≡ seen′) × (first ≡ first′) × (second ≡ second′) × (gap ≡ gap′)
+  chart-one m n =
+      let e = asks-settled s (atDesk d (asking (charting len code a))) (chartedOf (m .answer)) (chartedOf (n .answer)) (m .promise) (n .promise) in (
+        m .number ∙ ap codeOf e ∙ sym (n .number),
+        both (charted (λ (t : Chart) (was : ℕ). seenIn t)) old e (m .seen-by) (seen-from (m .answer) old) (n .seen-by) (seen-from (n .answer) old),
+        both (charted firstIn) u e (m .its-first) (first-from (m .answer) u) (n .its-first) (first-from (n .answer) u),
+        both (charted secondIn) v e (m .its-second) (second-from (m .answer) v) (n .its-second) (second-from (n .answer) v),
+        both (charted gapIn) w e (m .its-gap) (gap-from (m .answer) w) (n .its-gap) (gap-from (n .answer) w),
+      )
