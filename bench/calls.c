@@ -53,8 +53,8 @@ static void chart(void *with) {
 }
 
 enum { CALLS = 8, STORES = 5, FEED_OLD = 1, FEED_NEW = 2 };
-static const char *name[CALLS] = {"soundness test",   "feed, no new context", "feed, 6 new contexts", "feed_all, 16 symbols",
-                                  "open", "close of desk 0", "room", "chart"};
+static const char *name[CALLS] = {"soundness test", "feed, no new context", "feed, 6 new contexts", "feed_all, 16 symbols",
+                                  "open",           "close of desk 0",      "room",                 "chart"};
 static void (*const call[CALLS])(void *) = {test, feed_old, feed_new, feed_run, open_7, close_0, ask_room, chart};
 static const uint32_t good[CALLS] = {1, 0, 0, sizeof run, 0, 0, 0, 0};
 static const uint32_t room[STORES] = {128, 4096, 4096, 4096, 4096}, live[STORES] = {100, 100, 256, 1024, 4080};
@@ -81,11 +81,12 @@ int main(int words, char **word) {
     time_at(at[0], 0, 2);
     for (int k = 2; k < STORES; k++) time_at(at[0], k, k + 1);
     for (int i = 0; i < CALLS; i++) {
-        line(at[1][i].ns / 100, 0, "%s: ns for each of 100 live contexts", name[i]);
-        for (int k = 2; k < STORES; k++) line(at[k][i].ns / live[k], 0, "    of %u", live[k]);
-        line(at[4][i].ns / 4080 / (at[1][i].ns / 100), 1.25, "    linear: time for each, of 4,080 by of 100");
-        double ratio = at[1][i].ns / at[0][i].ns;
-        line(ratio > 1 ? ratio : 1 / ratio, 1.10, "    of 100, K 4,096 and K 128: larger by smaller");
+        double each[STORES];
+        for (int k = 0; k < STORES; k++) each[k] = at[k][i].ns / live[k];
+        note("%s, ns for each of 100, 256, 1,024 and 4,080 live contexts: %.2f %.2f %.2f %.2f", name[i], each[1], each[2],
+             each[3], each[4]);
+        line(each[4] / each[1], 1.25, "    linear: of 4,080 by of 100");
+        line(each[1] > each[0] ? each[1] / each[0] : each[0] / each[1], 1.10, "    of 100, K 4,096 and K 128: larger by smaller");
     }
     for (int i = FEED_OLD; i <= FEED_NEW; i++)
         for (int k = 1; k < STORES; k++)

@@ -17,7 +17,7 @@ void plain_start(trie *t, uint32_t alphabet, uint32_t depth) {
     t->depth = depth;
     t->used = 1;
     t->size[0] = t->size[1] = 0;
-    memset(&t->nodes[0], 0, sizeof(node));
+    memset(&t->nodes[ROOT], 0, sizeof(node));
 }
 
 static uint32_t child_of(trie *t, uint32_t at, uint8_t symbol) {
@@ -31,9 +31,9 @@ static uint32_t child_of(trie *t, uint32_t at, uint8_t symbol) {
 void plain_feed_all(trie *t, uint32_t sample, const uint8_t *symbols, uint32_t many) {
     uint8_t *text = t->text[sample];
     for (uint32_t i = 0; i < many; i++) {
-        uint32_t size = t->size[sample]++, at = 0;
+        uint32_t size = t->size[sample]++, at = ROOT;
         uint32_t deep = size < t->depth ? size : t->depth;
-        t->nodes[0].count[sample][symbols[i]]++;
+        t->nodes[ROOT].count[sample][symbols[i]]++;
         for (uint32_t j = 1; j <= deep; j++) {
             at = child_of(t, at, text[size - j]);
             t->nodes[at].count[sample][symbols[i]]++;
@@ -77,7 +77,7 @@ static best decide(node *n, const int64_t own[3], const best *below) {
     int64_t apart = b.loss[1] + b.loss[2];
     if (apart < b.loss[0]) b.loss[0] = apart, b.rows[0] = b.rows[1] + b.rows[2], joint = 1;
     if (below && below->loss[0] < b.loss[0]) b.loss[0] = below->loss[0], b.rows[0] = below->rows[0], joint = 2;
-    if (n) n->joint = joint, n->split[0] = split[0], n->split[1] = split[1];
+    n->joint = joint, n->split[0] = split[0], n->split[1] = split[1];
     return b;
 }
 
@@ -105,9 +105,9 @@ static uint32_t *put(uint32_t *to, uint32_t kind, uint32_t length, uint32_t code
     return to + 11;
 }
 
-// `joint`: both trees are wanted; else `own` says which of the own trees go on.
-static uint32_t *write(trie *t, uint32_t *to, const node *n, uint32_t length, uint32_t code, int joint, int first,
-                       int second) {
+// `joint`: both trees are wanted; else `first` and `second` say which of the own trees go on.
+static uint32_t *put_rows(const trie *t, uint32_t *to, const node *n, uint32_t length, uint32_t code, int joint, int first,
+                          int second) {
     if (joint && n->joint == 0) return put(to, 0, length, code, n);
     if (joint && n->joint == 1) joint = 0, first = second = 1;
     if (!joint) {
@@ -116,9 +116,8 @@ static uint32_t *write(trie *t, uint32_t *to, const node *n, uint32_t length, ui
         if (!first && !second) return to;
     }
     for (uint32_t a = 0; a < t->alphabet; a++) {
-        uint32_t c = n->child[a];
-        const node *child = c ? &t->nodes[c] : &t->nodes[8191];
-        to = write(t, to, child, length + 1, code + (a << 3 * length), joint, first, second);
+        uint32_t c = n->child[a] ? n->child[a] : UNSEEN;
+        to = put_rows(t, to, &t->nodes[c], length + 1, code + (a << 3 * length), joint, first, second);
     }
     return to;
 }
@@ -127,11 +126,10 @@ uint32_t plain_report(trie *t, uint32_t *sheet, int64_t *score) {
     costs[0] = (t->alphabet - 1) * L[t->size[0] + t->size[1]];
     costs[1] = (t->alphabet - 1) * L[t->size[0]];
     costs[2] = (t->alphabet - 1) * L[t->size[1]];
-    node *none = &t->nodes[8191]; // stands for every context that is not held
-    memset(none, 0, sizeof *none);
-    best unseen = decide(none, costs, 0);
-    best b = weigh(t, &t->nodes[0], t->depth, &unseen);
-    write(t, sheet, &t->nodes[0], 0, 0, 1, 0, 0);
+    memset(&t->nodes[UNSEEN], 0, sizeof(node));
+    best unseen = decide(&t->nodes[UNSEEN], costs, 0);
+    best b = weigh(t, &t->nodes[ROOT], t->depth, &unseen);
+    put_rows(t, sheet, &t->nodes[ROOT], 0, 0, 1, 0, 0);
     *score = -b.loss[0];
     return b.rows[0];
 }

@@ -2,16 +2,18 @@
 #pragma once
 #include <stdint.h>
 
+enum { NODES = 8192, ROOT = 0, UNSEEN = NODES - 1 }; // the last node stands for every context that is not held
+
 typedef struct {
     uint32_t count[2][8];
-    uint32_t child[8]; // by the next older symbol; 0 is none
-    uint8_t joint, split[2];
+    uint32_t child[8];       // by the next older symbol; 0 is none
+    uint8_t joint, split[2]; // the decision: 0 shared leaf, 1 two separate trees, 2 split of both; which separate trees split
 } node;
 
 typedef struct {
     uint32_t alphabet, depth, used, size[2];
     uint8_t text[2][512];
-    node nodes[8192]; // the root is 0
+    node nodes[NODES];
 } trie;
 
 void plain_start(trie *t, uint32_t alphabet, uint32_t depth);

@@ -73,6 +73,15 @@ void line(double measured, double bound, const char *what, ...) {
     else printf("%-76s %9.2f\n", text, measured);
 }
 
+void note(const char *what, ...) {
+    va_list rest;
+    if (wanted >= 0) return;
+    va_start(rest, what);
+    vprintf(what, rest);
+    va_end(rest);
+    printf("\n");
+}
+
 void must(int done, const char *what) {
     if (done) return;
     fprintf(stderr, "bench: failed: %s\n", what);

@@ -21,5 +21,7 @@ void asked(int words, char **word);
 
 // A line: what was measured, the number, and the bound beside it (0: there is none).
 void line(double measured, double bound, const char *what, ...);
+// A line of text alone.
+void note(const char *what, ...);
 // Ends the program where something that was measured did not do its work.
 void must(int done, const char *what);
