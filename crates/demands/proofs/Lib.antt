@@ -1,3 +1,5 @@
 pub mod Marked
 pub mod Contracts
-pub mod Demands
+pub mod Demand1
+pub mod Demand2
+pub mod Demand3

@@ -3,8 +3,9 @@ use Prim.Native.Nat.{ℕ, _<_}
 use mathlib.Core.Path.{_≡_}
 use mathlib.Core.Bool.{not}
 use mathlib.Core.Logic.{_↔_}
-use mathlib.Core.List.{List, [], _∷_, reverse}
+use mathlib.Core.List.{List, [], _∷_, _++_, reverse}
 use mathlib.Core.Option.{some}
+use lib.ListN.{length}
 use lib.Dec.{T}
 use Rattle.contexts.specs.Counts.{N-placed}
 use Rattle.contexts.specs.Sitting.{Sample, Sitting}
@@ -15,16 +16,19 @@ use Rattle.rows.specs.Rows.{rowsOf}
 use Rattle.rows.specs.Members.{members, Increasing}
 use Rattle.replay.specs.Room.{Making, Opening}
 use Rattle.replay.specs.Table.{Line, _when_, Outcome, refused, answered, NoneApplies, First, rises}
-use Rattle.replay.specs.Machine.{asking, Call, atDesk, tableOf, answerOf}
-use Rattle.replay.specs.Serial.{Course, calls, answers, struck, sittings, serial}
+use Rattle.replay.specs.Machine.{opening, asking, Call, atDesk, tableOf, answerOf}
+use Rattle.replay.specs.Serial.{Told, Course, calls, answers, struck, sittings, serial}
 use Rattle.replay.specs.Alone.{latest, asks}
+use Rattle.store.specs.Making.{roomOutside, storeShort}
+use Rattle.store.specs.declared.Made.{Made}
+use Rattle.store.specs.declared.Made.the-variants.{Done, RoomOutside, StoreShort}
 use Rattle.store.specs.Sound.{soundb}
 use Rattle.store.specs.Meaning.{meaning}
 use Rattle.rules.specs.Feed.{countedFrom}
 use Rattle.rules.specs.Report.{Reported}
-use Rattle.rules.specs.Rules.{Answer, reporting, reported, rules}
+use Rattle.rules.specs.Rules.{Answer, done, reporting, reported, rules}
 use Rattle.rules.specs.Strings.{stringsOf, sittingFor}
-use Rattle.demands.specs.Runs.{Does, MadeNew, Run}
+use Rattle.demands.specs.Runs.{OnSheet, Does, MadeNew, Run}
 
 -- ---- DEMAND 1: "refuses by number under the stated conditions and no others. A refused call changes neither the store nor the sheet."
 
@@ -32,12 +36,32 @@ use Rattle.demands.specs.Runs.{Does, MadeNew, Run}
 abbrev pub tableOn : List ℕ → Call rules → List Line
 tableOn σ c = 1 when not (soundb σ) ∷ tableOf rules (meaning σ) c
 
--- a call on σ that answers o and leaves τ (that a refused report leaves the sheet is a field of its promise, `Reports`)
+-- a call on σ that answers o and leaves τ
 pub record Demand1 (σ : List ℕ) (c : Call rules) (o : Outcome Answer) (τ : List ℕ) : Type 0 where
   pub refused-exactly : (n : ℕ) → (o ≡ refused n) ↔ First (tableOn σ c) n
   pub answered-exactly : (o ≡ answered (answerOf rules (meaning σ) c)) ↔ NoneApplies (tableOn σ c)
   pub numbers-rise : T (rises 1 (tableOn σ c))
   pub refused-stays : (n : ℕ) → o ≡ refused n → τ ≡ σ
+
+-- a refused report leaves the sheet that was lent to it
+abbrev pub Demand1Sheet : Type 0
+Demand1Sheet = (σ τ : List ℕ) (d sheet place n : ℕ) (o : Outcome Answer) (lent : OnSheet σ d sheet place o τ) → o ≡ refused n → lent .after ≡ lent .before
+
+-- the table of a making of room K with n numbers
+abbrev pub makingTable : ℕ → ℕ → List Line
+makingTable K n = 17 when roomOutside K ∷ 18 when storeShort K n ∷ []
+
+-- the answer of a making as an outcome
+abbrev pub makingOf : Made → Outcome Answer
+makingOf Done = answered done
+makingOf RoomOutside = refused 17
+makingOf StoreShort = refused 18
+
+-- a making of room K with the numbers σ that answers m and leaves τ
+pub record Demand1Making (K : ℕ) (σ : List ℕ) (m : Made) (τ : List ℕ) : Type 0 where
+  pub refused-exactly : (n : ℕ) → (makingOf m ≡ refused n) ↔ First (makingTable K (length σ)) n
+  pub made-exactly : (makingOf m ≡ answered done) ↔ NoneApplies (makingTable K (length σ))
+  pub refused-stays : (n : ℕ) → makingOf m ≡ refused n → τ ≡ σ
 
 -- ---- DEMAND 2: "A report is the joint context tree estimate .."
 
@@ -54,7 +78,10 @@ pub record JointEstimate (x : Sitting) (r : Reported) : Type 0 where
 pub record OfItsStrings (gs : List (Course rules)) (d : ℕ) (r : Reported) : Type 0 where
   pub course : Course rules
   pub there : latest rules d gs ≡ some course
+  -- the opening that it began with, which names A and D
   pub named : Opening
+  pub later : List (Told rules)
+  pub begun : course .told ≡ record { act = opening named; answer = done } ∷ later
   -- the strings, most recent symbol first
   pub strings : Sample → List ℕ
   pub fed : strings ≡ stringsOf (asks rules (course .told))
@@ -62,12 +89,16 @@ pub record OfItsStrings (gs : List (Course rules)) (d : ℕ) (r : Reported) : Ty
   -- "every frequency the true count": N(s,a) by place, strings and context oldest first
   pub true-counts : (i : Sample) (s : List ℕ) (a : ℕ) → sittingFor named strings .count i s a ≡ N-placed (countedFrom named) (reverse (strings i)) (reverse s) a
 
--- after any run on a newly made store, an accepted report is that of its sitting's own strings
+-- every accepted report among the calls cs, which answered os, is that of its sitting's own strings so far: `before` are the calls before it
+abbrev pub OwnReports : List (Call rules) → List (Outcome Answer) → Type 0
+OwnReports cs os =
+    (before behind : List (Call rules)) (said saying : List (Outcome Answer)) (d sheet place : ℕ) (r : Reported) → length before ≡ length said
+    → cs ≡ before ++ (atDesk d (asking (reporting sheet place)) ∷ behind) → os ≡ said ++ (answered (reported r) ∷ saying)
+    → OfItsStrings (sittings rules [] (struck rules before said)) d r
+
+-- in any run on a newly made store, every accepted report is that of its sitting's own strings so far
 abbrev pub Demand2 : Type 0
-Demand2 =
-    (K : Making) (σ τ υ : List ℕ) (cs : List (Call rules)) (os : List (Outcome Answer)) → MadeNew K σ → Run σ cs os τ
-    → (d sheet place : ℕ) (r : Reported) → Does τ (atDesk d (asking (reporting sheet place))) (answered (reported r)) υ
-    → OfItsStrings (sittings rules [] (struck rules cs os)) d r
+Demand2 = (K : Making) (σ τ : List ℕ) (cs : List (Call rules)) (os : List (Outcome Answer)) → MadeNew K σ → Run σ cs os τ → OwnReports cs os
 
 -- .. and the joint estimate of a sitting is one
 abbrev pub OneEstimate : Type 0
@@ -76,11 +107,14 @@ OneEstimate = (x : Sitting) (q r : Reported) → 0 < x .symbols → JointEstimat
 -- ---- DEMAND 3: the replay
 
 -- on a second store, newly made of the same room, one sitting after another in order of opening: nothing is refused, every call answers as before
--- with the same rows, what the numbers stand for at the end is the same, and every further call answers alike
+-- with the same rows, what the numbers stand for at the end is the same (the same desks are open, the same room is left), and every further call
+-- answers alike; and each report of the run and of the replay is demand 2's
 pub record Replayed (cs : List (Call rules)) (os os′ : List (Outcome Answer)) (τ τ′ : List ℕ) : Type 0 where
   pub alike : os′ ≡ answers rules (serial rules (struck rules cs os))
   pub same-room : meaning τ′ ≡ meaning τ
   pub next-alike : (υ υ′ : List ℕ) (c : Call rules) (o o′ : Outcome Answer) → Does τ c o υ → Does τ′ c o′ υ′ → o′ ≡ o
+  pub own-reports : OwnReports cs os
+  pub own-again : OwnReports (calls rules (serial rules (struck rules cs os))) os′
 
 abbrev pub Demand3 : Type 0
 Demand3 =

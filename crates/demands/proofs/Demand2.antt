@@ -1,17 +1,14 @@
--- The three demands hold of the public functions' promises. Assumes nothing.
+-- Demand 2: every report is the one joint estimate of its sitting's own strings. Assumes nothing.
 use Prim.Native.Nat.{ℕ, _<_}
 use native.Mathlib.Omega.{arith}
 use mathlib.Core.Path.{_≡_, refl, sym, ap, ap₂, subst, _∙_}
-use mathlib.Core.Bool.{Bool, true, false, cond, not}
-use mathlib.Core.List.{List, [], _∷_, reverse, reverse-reverse}
-use lib.Dec.{T}
+use mathlib.Core.List.{List, [], _∷_, _++_, reverse, reverse-reverse}
+use lib.ListN.{length}
 use lib.IntN.{ℤ}
-use Rattle.numbers.proofs.Tests.{of-true}
 use Rattle.contexts.specs.Counts.{N, N-placed}
 use Rattle.contexts.specs.Sitting.{Sample, Sitting, Progress, sat}
 use Rattle.contexts.proofs.Places.{N-placed-is-N}
-use Rattle.estimate.specs.Trees.{Triple}
-use Rattle.estimate.specs.Score.{worths, score, Best}
+use Rattle.estimate.specs.Score.{worths, score}
 use Rattle.estimate.specs.Recursion.{estimateOf}
 use Rattle.estimate.proofs.Optimal.{best-of}
 use Rattle.estimate.proofs.JointTies.{ties-of}
@@ -19,70 +16,50 @@ use Rattle.estimate.proofs.Unique.{only-estimate}
 use Rattle.rows.specs.Rows.{Row, rowsOf}
 use Rattle.rows.proofs.Ordering.{members-increasing}
 use Rattle.replay.specs.Room.{Making, Opening, Desk, closed, opened}
-use Rattle.replay.specs.Table.{Outcome, refused, answered, verdictOf, rises}
-use Rattle.replay.specs.Machine.{opening, asking, closing, Call, atDesk, roomQuestion, tableOf, answerAt, answerOf, verdict}
+use Rattle.replay.specs.Table.{Outcome, answered}
+use Rattle.replay.specs.Machine.{opening, asking, Call, atDesk, answerAt, verdict}
 use Rattle.replay.specs.Real.{Made, Runs}
-use Rattle.replay.specs.Alone.{asks}
-use Rattle.replay.specs.Serial.{struck, sittings}
-use Rattle.replay.proofs.Tables.{refused-exactly, answered-exactly}
-use Rattle.replay.proofs.Refusals.{tables-rise}
+use Rattle.replay.specs.Alone.{Alone, begins, goes-on, asks}
+use Rattle.replay.specs.Serial.{Told, struck, sittings}
 use Rattle.replay.proofs.Swap.{heard}
-use Rattle.replay.proofs.RealRuns.{runs-sound, real-open, real-answers, real-room, real-next}
-use Rattle.store.specs.Sound.{soundb}
+use Rattle.replay.proofs.RealRuns.{runs-sound, real-open}
 use Rattle.store.specs.Meaning.{meaning}
 use Rattle.rules.specs.Feed.{countedFrom}
 use Rattle.rules.specs.Report.{Reported, report}
 use Rattle.rules.specs.Rules as sitting
-use Rattle.rules.specs.Rules.{Answer, done, feed, reporting, charting, reported, rules}
+use Rattle.rules.specs.Rules.{Answer, done, reporting, reported, rules}
 use Rattle.rules.specs.Strings.{StandsFor, stringsOf, sittingFor}
 use Rattle.rules.proofs.TrueCounts.{stands-alone}
 use Rattle.rules.proofs.OwnReport.{own-report}
 use Rattle.store.proofs.Fitting.{meaning-fits}
-use Rattle.rules.proofs.Numbers.{lines-rise}
-use Rattle.demands.specs.Runs.{Does, MadeNew, Run}
-use Rattle.demands.specs.Demands.{tableOn, Demand1, JointEstimate, OfItsStrings, Demand2, OneEstimate, Replayed, Demand3}
+use Rattle.demands.specs.Runs.{Does, MadeNew, Run, stop, then}
+use Rattle.demands.specs.Demands.{JointEstimate, OfItsStrings, Demand2, OneEstimate}
 use Rattle.demands.proofs.Contracts.{Sound, contracts, answers, newly-made, runs}
 
--- ---- demand 1
+-- a sitting's first act is its opening
+begun : {ts : List (Told rules)} {o : Opening} {p : Progress} → Alone rules ts (opened o p)
+    → (later : List (Told rules)) × (ts ≡ record { act = opening o; answer = done } ∷ later)
+begun (begins o) = ([], refl)
+begun (goes-on {o = o} {s = p} al q n) =
+    let last : List (Told rules) = record { act = asking q; answer = rules .answer o p q } ∷ [] in
+    let h = begun al in
+    (h .0 ++ last, ap (λ (ts : List (Told rules)). ts ++ last) (h .1))
 
--- refused 1 where the numbers do not pass the test
-unsound : (σ τ : List ℕ) (c : Call rules) (o : Outcome Answer) → soundb σ ≡ false → Does σ c o τ → o ≡ refused 1
-unsound σ τ (atDesk d (opening p)) o f m = m .unsound f
-unsound σ τ (atDesk d (asking (feed i a))) o f m = m .unsound f
-unsound σ τ (atDesk d (asking (reporting sheet place))) o f m = m .reports .asks .unsound f
-unsound σ τ (atDesk d (asking (charting len code a))) o f m = m .asks .unsound f
-unsound σ τ (atDesk d closing) o f m = m .unsound f
-unsound σ τ roomQuestion o f m = m .asks .unsound f
+-- a run that goes on with a call: the run before it, and the call
+record UpTo (σ : List ℕ) (cs : List (Call rules)) (os : List (Outcome Answer)) (c : Call rules) (o : Outcome Answer) : Type 0 where
+  now : List ℕ
+  next : List ℕ
+  run : Run σ cs os now
+  does : Does now c o next
 
-stays : (σ τ : List ℕ) (c : Call rules) (o : Outcome Answer) (n : ℕ) → o ≡ refused n → Does σ c o τ → τ ≡ σ
-stays σ τ (atDesk d (opening p)) o n e m = m .refused-stays n e
-stays σ τ (atDesk d (asking (feed i a))) o n e m = m .refused-stays n e
-stays σ τ (atDesk d (asking (reporting sheet place))) o n e m = m .only-read
-stays σ τ (atDesk d (asking (charting len code a))) o n e m = m .only-read
-stays σ τ (atDesk d closing) o n e m = m .refused-stays n e
-stays σ τ roomQuestion o n e m = m .only-read
-
--- the answer is what the whole table says
-by-table : (σ τ : List ℕ) (c : Call rules) (o : Outcome Answer) → Does σ c o τ → o ≡ verdictOf (tableOn σ c) (answerOf rules (meaning σ) c)
-unfolding verdictOf verdict
-by-table σ τ c o m = go (soundb σ) refl
-  where
-    go : (b : Bool) → soundb σ ≡ b → o ≡ cond (not (soundb σ)) (refused 1) (verdictOf (tableOf rules (meaning σ) c) (answerOf rules (meaning σ) c))
-    go true e = rw e (answers σ τ c o e m)
-    go false e = rw e (unsound σ τ c o e m)
-
-pub demand-1 : (σ τ : List ℕ) (c : Call rules) (o : Outcome Answer) → Does σ c o τ → Demand1 σ c o τ
-unfolding rises
-demand-1 σ τ c o m =
-    let e = by-table σ τ c o m in
-    record {
-      refused-exactly = λ n. rw e (refused-exactly (tableOn σ c) (answerOf rules (meaning σ) c) n);
-      answered-exactly = rw e (answered-exactly (tableOn σ c) (answerOf rules (meaning σ) c));
-      numbers-rise = tables-rise rules (λ o p q. of-true _ (lines-rise o p q)) (meaning σ) c;
-      refused-stays = λ n r. stays σ τ c o n r m;
-    }
-
--- ---- demand 2
+up-to : {σ τ : List ℕ} {c : Call rules} {o : Outcome Answer} (before behind : List (Call rules)) (said saying : List (Outcome Answer)) → length before ≡ length said
+    → Run σ (before ++ (c ∷ behind)) (said ++ (o ∷ saying)) τ → UpTo σ before said c o
+up-to [] behind [] saying e (then d r) = record { now = _; next = _; run = stop; does = d }
+up-to [] behind (p ∷ said) saying e r = absurd (omega arith)
+up-to (b ∷ before) behind [] saying e r = absurd (omega arith)
+up-to (b ∷ before) behind (p ∷ said) saying e (then d r) =
+    let h = up-to before behind said saying (omega arith) r in
+    record { now = h .now; next = h .next; run = then d (h .run); does = h .does }
 
 -- the estimate of a sitting is a joint estimate ..
 joint-estimate : (x : Sitting) → 0 < x .symbols → JointEstimate x (report x)
@@ -115,9 +92,11 @@ counts-by-place o w i s a = sym (rw (reverse-reverse (w i), reverse-reverse s) a
 same-report : (q r : Reported) → _≡_ {A = Answer} (reported q) (reported r) → q ≡ r
 same-report q r e = cc
 
-pub demand-2 : Demand2
+-- after any run on a newly made store an accepted report is that of its sitting's own strings
+next-report : (K : Making) (σ τ υ : List ℕ) (cs : List (Call rules)) (os : List (Outcome Answer)) → MadeNew K σ → Run σ cs os τ → (d sheet place : ℕ) (r : Reported)
+    → Does τ (atDesk d (asking (reporting sheet place))) (answered (reported r)) υ → OfItsStrings (sittings rules [] (struck rules cs os)) d r
 unfolding answerAt sitting.answerOf
-demand-2 K σ τ υ cs os made run d sheet place r does = go (meaning τ .at d) refl
+next-report K σ τ υ cs os made run d sheet place r does = go (meaning τ .at d) refl
   where
     real : Runs rules (List ℕ) contracts σ cs os τ
     real = runs run
@@ -145,26 +124,22 @@ demand-2 K σ τ υ cs os made run d sheet place r does = go (meaning τ .at d) 
         let w : Sample → List ℕ = stringsOf (asks rules (own .sitting .told)) in
         let stands : StandsFor o w p = stands-alone (own .alone) in
         let fits = meaning-fits τ sound .sittings d o p e .alphabet-fewest in
+        let first = begun (own .alone) in
         let is : report (sat (o .symbols) (o .depth) p) ≡ r =
         same-report _ r (ap (λ (D : Desk Progress). answerAt rules D (asking (reporting sheet place))) (sym e) ∙ h .1) in
         record {
           course = own .sitting;
           there = own .there;
           named = o;
+          later = first .0;
+          begun = first .1;
           strings = w;
           fed = refl;
           estimate = subst (JointEstimate (sittingFor o w)) (sym (own-report o w p stands) ∙ is) (joint-estimate (sittingFor o w) (omega arith));
           true-counts = counts-by-place o w;
         }
 
--- ---- demand 3
-
-pub demand-3 : Demand3
-demand-3 K σ τ σ′ τ′ cs os os′ made run made′ again =
-    let new = newly-made K σ made in
-    let new′ = newly-made K σ′ made′ in
-    record {
-      alike = real-answers rules (List ℕ) contracts K σ τ σ′ τ′ cs os os′ new (runs run) new′ (runs again);
-      same-room = real-room rules (List ℕ) contracts K σ τ σ′ τ′ cs os os′ new (runs run) new′ (runs again);
-      next-alike = real-next rules (List ℕ) contracts K σ τ σ′ τ′ cs os os′ new (runs run) new′ (runs again);
-    }
+pub demand-2 : Demand2
+demand-2 K σ τ cs os made run before behind said saying d sheet place r many called answered-so =
+    let far = up-to before behind said saying many (rw (called, answered-so) at run) in
+    next-report K σ (far .now) (far .next) before said made (far .run) d sheet place r (far .does)
