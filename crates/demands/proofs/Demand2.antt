@@ -1,20 +1,11 @@
--- Demand 2: every report is the one joint estimate of its sitting's own strings. Assumes nothing.
-use Prim.Native.Nat.{ℕ, _<_}
+-- Demand 2: every report of a run is the joint estimate of its sitting's own strings. Assumes nothing.
+use Prim.Native.Nat.{ℕ}
 use native.Mathlib.Omega.{arith}
-use mathlib.Core.Path.{_≡_, refl, sym, ap, ap₂, subst, _∙_}
-use mathlib.Core.List.{List, [], _∷_, _++_, reverse, reverse-reverse}
+use mathlib.Core.Path.{_≡_, refl, sym, ap, subst, _∙_}
+use mathlib.Core.List.{List, [], _∷_, _++_}
 use lib.ListN.{length}
-use lib.IntN.{ℤ}
-use Rattle.contexts.specs.Counts.{N, N-placed}
-use Rattle.contexts.specs.Sitting.{Sample, Sitting, Progress, sat}
-use Rattle.contexts.proofs.Places.{N-placed-is-N}
-use Rattle.estimate.specs.Score.{worths, score}
-use Rattle.estimate.specs.Recursion.{estimateOf}
-use Rattle.estimate.proofs.Optimal.{best-of}
-use Rattle.estimate.proofs.JointTies.{ties-of}
-use Rattle.estimate.proofs.Unique.{only-estimate}
-use Rattle.rows.specs.Rows.{Row, rowsOf}
-use Rattle.rows.proofs.Ordering.{members-increasing}
+use Rattle.contexts.specs.Sitting.{Sample, first, Progress, sat}
+use Rattle.estimate.specs.Trees.{own}
 use Rattle.replay.specs.Room.{Making, Opening, Desk, closed, opened}
 use Rattle.replay.specs.Table.{Outcome, answered}
 use Rattle.replay.specs.Machine.{opening, asking, Call, atDesk, answerAt, verdict}
@@ -24,7 +15,6 @@ use Rattle.replay.specs.Serial.{Told, struck, sittings}
 use Rattle.replay.proofs.Swap.{heard}
 use Rattle.replay.proofs.RealRuns.{runs-sound, real-open}
 use Rattle.store.specs.Meaning.{meaning}
-use Rattle.rules.specs.Feed.{countedFrom}
 use Rattle.rules.specs.Report.{Reported, report}
 use Rattle.rules.specs.Rules as sitting
 use Rattle.rules.specs.Rules.{Answer, done, reporting, reported, rules}
@@ -33,8 +23,9 @@ use Rattle.rules.proofs.TrueCounts.{stands-alone}
 use Rattle.rules.proofs.OwnReport.{own-report}
 use Rattle.store.proofs.Fitting.{meaning-fits}
 use Rattle.demands.specs.Runs.{Does, MadeNew, Run, stop, then}
-use Rattle.demands.specs.Demands.{JointEstimate, OfItsStrings, Demand2, OneEstimate}
+use Rattle.demands.specs.Demands.{JointEstimate, OfItsStrings, Demand2}
 use Rattle.demands.proofs.Contracts.{Sound, contracts, answers, newly-made, runs}
+use Rattle.demands.proofs.Estimate.{joint-estimate, counts-by-place}
 
 -- a sitting's first act is its opening
 begun : {ts : List (Told rules)} {o : Opening} {p : Progress} → Alone rules ts (opened o p)
@@ -60,33 +51,6 @@ up-to (b ∷ before) behind [] saying e r = absurd (omega arith)
 up-to (b ∷ before) behind (p ∷ said) saying e (then d r) =
     let h = up-to before behind said saying (omega arith) r in
     record { now = h .now; next = h .next; run = then d (h .run); does = h .does }
-
--- the estimate of a sitting is a joint estimate ..
-joint-estimate : (x : Sitting) → 0 < x .symbols → JointEstimate x (report x)
-joint-estimate x p = record {
-  triple = estimateOf x;
-  best = best-of x p;
-  ties = ties-of x p;
-  rows = refl;
-  in-order = members-increasing (x .symbols) (x .depth) (estimateOf x);
-  score-is = refl;
-}
-
--- .. and the only one
-pub one-estimate : OneEstimate
-one-estimate x q r p j k = ap₂ told rows (j .score-is ∙ ap (score (x .symbols) (x .depth) (worths x)) same ∙ sym (k .score-is))
-  where
-    told : List Row → ℤ → Reported
-    told rs n = record { rows = rs; score = n }
-
-    same : j .triple ≡ k .triple
-    same = only-estimate x (j .triple) p (j .best) (j .ties) ∙ sym (only-estimate x (k .triple) p (k .best) (k .ties))
-
-    rows : q .rows ≡ r .rows
-    rows = j .rows ∙ ap (rowsOf x) same ∙ sym (k .rows)
-
-counts-by-place : (o : Opening) (w : Sample → List ℕ) (i : Sample) (s : List ℕ) (a : ℕ) → N (countedFrom o) (w i) s a ≡ N-placed (countedFrom o) (reverse (w i)) (reverse s) a
-counts-by-place o w i s a = sym (rw (reverse-reverse (w i), reverse-reverse s) at (N-placed-is-N (countedFrom o) (reverse (w i)) (reverse s) a))
 
 -- two answers of reports are the same report
 same-report : (q r : Reported) → _≡_ {A = Answer} (reported q) (reported r) → q ≡ r
@@ -120,19 +84,19 @@ next-report K σ τ υ cs os made run d sheet place r does = go (meaning τ .at 
         clash z = let y : _≡_ {A = ℕ} 0 1 = cc in omega arith
     go (opened o p) e =
         let h = heard rules (meaning τ) d (asking (reporting sheet place)) (reported r) said in
-        let own = real-open rules (List ℕ) contracts K σ τ cs os new real d o p e in
-        let w : Sample → List ℕ = stringsOf (asks rules (own .sitting .told)) in
-        let stands : StandsFor o w p = stands-alone (own .alone) in
+        let alone = real-open rules (List ℕ) contracts K σ τ cs os new real d o p e in
+        let w : Sample → List ℕ = stringsOf (asks rules (alone .sitting .told)) in
+        let stands : StandsFor o w p = stands-alone (alone .alone) in
         let fits = meaning-fits τ sound .sittings d o p e .alphabet-fewest in
-        let first = begun (own .alone) in
+        let start = begun (alone .alone) in
         let is : report (sat (o .symbols) (o .depth) p) ≡ r =
         same-report _ r (ap (λ (D : Desk Progress). answerAt rules D (asking (reporting sheet place))) (sym e) ∙ h .1) in
         record {
-          course = own .sitting;
-          there = own .there;
+          course = alone .sitting;
+          there = alone .there;
           named = o;
-          later = first .0;
-          begun = first .1;
+          later = start .0;
+          begun = start .1;
           strings = w;
           fed = refl;
           estimate = subst (JointEstimate (sittingFor o w)) (sym (own-report o w p stands) ∙ is) (joint-estimate (sittingFor o w) (omega arith));

@@ -3,17 +3,17 @@ use Prim.Native.Nat.{ℕ, _<_}
 use mathlib.Core.Path.{_≡_}
 use mathlib.Core.Bool.{not}
 use mathlib.Core.Logic.{_↔_}
-use mathlib.Core.List.{List, [], _∷_, _++_, reverse}
+use mathlib.Core.List.{List, [], _∷_, _++_, reverse, List·Memᴰ}
 use mathlib.Core.Option.{some}
 use lib.ListN.{length}
 use lib.Dec.{T}
 use Rattle.contexts.specs.Counts.{N-placed}
 use Rattle.contexts.specs.Sitting.{Sample, Sitting}
-use Rattle.estimate.specs.Trees.{Triple}
+use Rattle.estimate.specs.Trees.{Kind, Triple, In}
 use Rattle.estimate.specs.Score.{worths, score, Best}
 use Rattle.estimate.specs.Ties.{KeepsTies}
 use Rattle.rows.specs.Rows.{rowsOf}
-use Rattle.rows.specs.Members.{members, Increasing}
+use Rattle.rows.specs.Members.{member, members, Increasing}
 use Rattle.replay.specs.Room.{Making, Opening}
 use Rattle.replay.specs.Table.{Line, _when_, Outcome, refused, answered, NoneApplies, First, rises}
 use Rattle.replay.specs.Machine.{opening, asking, Call, atDesk, tableOf, answerOf}
@@ -71,6 +71,8 @@ pub record JointEstimate (x : Sitting) (r : Reported) : Type 0 where
   pub best : Best (x .symbols) (x .depth) (worths x) triple
   pub ties : KeepsTies (x .symbols) (x .depth) (worths x) triple
   pub rows : r .rows ≡ rowsOf x triple
+  -- they are of the triple's contexts, each with its kind, and of no others
+  pub each-context : (k : Kind) (s : List ℕ) → List·Memᴰ (member k s) (members (x .symbols) (x .depth) triple) ↔ In s (triple k)
   pub in-order : Increasing (members (x .symbols) (x .depth) triple)
   pub score-is : r .score ≡ score (x .symbols) (x .depth) (worths x) triple
 
