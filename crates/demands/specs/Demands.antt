@@ -3,7 +3,7 @@ use Prim.Native.Nat.{ℕ, _<_}
 use mathlib.Core.Path.{_≡_}
 use mathlib.Core.Bool.{not}
 use mathlib.Core.Logic.{_↔_}
-use mathlib.Core.List.{List, [], _∷_, _++_, reverse, List·Memᴰ}
+use mathlib.Core.List.{List, [], _∷_, _++_, reverse, List·Memᴰ, Perm}
 use mathlib.Core.Option.{some}
 use lib.ListN.{length}
 use lib.Dec.{T}
@@ -17,7 +17,7 @@ use Rattle.rows.specs.Members.{member, members, Increasing}
 use Rattle.replay.specs.Room.{Making, Opening}
 use Rattle.replay.specs.Table.{Line, _when_, Outcome, refused, answered, NoneApplies, First, rises}
 use Rattle.replay.specs.Machine.{opening, asking, Call, atDesk, tableOf, answerOf}
-use Rattle.replay.specs.Serial.{Told, Course, calls, answers, struck, sittings, serial}
+use Rattle.replay.specs.Serial.{Told, Course, calls, answers, struck, sittings, serial, callsAt, openings}
 use Rattle.replay.specs.Alone.{latest, asks}
 use Rattle.store.specs.Making.{roomOutside, storeShort}
 use Rattle.store.specs.declared.Made.{Made}
@@ -115,6 +115,10 @@ pub record Replayed (cs : List (Call rules)) (os os′ : List (Outcome Answer)) 
   pub alike : os′ ≡ answers rules (serial rules (struck rules cs os))
   pub same-room : meaning τ′ ≡ meaning τ
   pub next-alike : (υ υ′ : List ℕ) (c : Call rules) (o o′ : Outcome Answer) → Does τ c o υ → Does τ′ c o′ υ′ → o′ ≡ o
+  -- the replay has the calls that were not struck out, none lost or doubled, those of each desk in their order, and the openings in theirs
+  pub nothing-lost : Perm (serial rules (struck rules cs os)) (struck rules cs os)
+  pub order-kept : (d : ℕ) → callsAt rules d (serial rules (struck rules cs os)) ≡ callsAt rules d (struck rules cs os)
+  pub openings-kept : openings rules (serial rules (struck rules cs os)) ≡ openings rules (struck rules cs os)
   pub own-reports : OwnReports cs os
   pub own-again : OwnReports (calls rules (serial rules (struck rules cs os))) os′
 
