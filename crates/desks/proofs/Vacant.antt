@@ -25,7 +25,8 @@ use Rattle.store.proofs.Climbing.{key-stands}
 use Rattle.store.proofs.Passing.{passed, record-key}
 use Rattle.store.proofs.Fitting.{desk-opened, desk-closed}
 use Rattle.rules.specs.Rules.{rules}
-use Rattle.desks.proofs.Granting.{already-open}
+use Rattle.desks.specs.Changes.{Openable}
+use Rattle.desks.proofs.Granting.{Ready, already-open}
 
 pub room-made : (s : List ℕ) → meaning s .made ≡ room s
 unfolding meaning
@@ -38,6 +39,9 @@ shut-there s d n = desk-closed s d n
 pub open-there : (s : List ℕ) (d : ℕ) (o : Opening) → Open s d → verdict rules (meaning s) (atDesk d (opening o)) ≡ refused 3
 unfolding meaning
 open-there s d o p = already-open (meaning s) d o (p .desk) (openingAt s d) (progressAt s d) (desk-opened s d p)
+
+pub ready-there : (s : List ℕ) (d : ℕ) (o : Opening) → Openable s d o → Ready (meaning s) d o
+ready-there s d o p = record { desk = p .desk; shut = shut-there s d (p .shut); limits = p .limits }
 
 -- no record is of a desk that is not open
 module _ (s : List ℕ) (d : ℕ) (h : soundb s ≡ true) (n : Open s d → ⊥) where

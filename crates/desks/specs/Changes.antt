@@ -1,6 +1,7 @@
 -- What an accepted opening and an accepted closing change in the numbers of a store. Assumes nothing.
 use Prim.Native.Nat.{ℕ, _<_}
 use mathlib.Core.Path.{_≡_}
+use mathlib.Core.Bool.{true, false}
 use mathlib.Core.Logic.{_≢_}
 use mathlib.Core.List.{List, _∷_}
 use lib.ListN.{length, drop, replicate}
@@ -8,7 +9,10 @@ use Rattle.numbers.specs.Limits.{deepest, desks}
 use Rattle.contexts.specs.Sitting.{Sample}
 use Rattle.records.specs.Held.{without}
 use Rattle.replay.specs.Room.{Opening}
+use Rattle.replay.specs.Machine.{outsideLimits}
 use Rattle.store.specs.Layout.{storeSize, room, used, field, sizeAt, slotsAt, recordsIn}
+use Rattle.store.specs.Plain.{Open}
+use Rattle.store.specs.Sound.{soundb}
 use Rattle.store.specs.Meaning.{openingAt}
 
 -- "Opening a desk names A, D and a reservation r."
@@ -22,6 +26,13 @@ deskNumbers = 18
 -- those of a desk that opens: "both samples empty"
 abbrev pub freshDesk : Opening → List ℕ
 freshDesk o = 1 ∷ o .symbols ∷ o .depth ∷ o .reserve ∷ replicate 14 0
+
+-- what the judging of a reservation asks: a sound store, one of the eight desks, which is not open, and A and D within their limits
+pub record Openable (s : List ℕ) (d : ℕ) (o : Opening) : Type 0 where
+  pub sound : soundb s ≡ true
+  pub desk : d < desks
+  pub shut : Open s d → ⊥
+  pub limits : outsideLimits o ≡ false
 
 -- t is s but for desk d and the records: the room, the other desks' numbers, all that lies past the store's size, the length
 pub record Beside (s t : List ℕ) (d : ℕ) : Type 0 where

@@ -11,7 +11,7 @@ ghost use Rattle.store.specs.Sound.{reservedAt, soundb};
 ghost use Rattle.store.specs.Meaning.{meaning};
 ghost use Rattle.calls.specs.Refusals.{outcomeOf, roomOf};
 ghost use Rattle.calls.specs.Promises.{Moves, Asks};
-ghost use Rattle.desks.specs.Changes.{naming, deskNumbers, freshDesk, Opened, Closed};
+ghost use Rattle.desks.specs.Changes.{naming, deskNumbers, freshDesk, Openable, Opened, Closed};
 use calls::Refusal;
 use calls::RoomLeft;
 use calls::Verdict;
@@ -51,6 +51,20 @@ pub fn open(store: &mut [u32], desk: u32, alphabet: u32, depth: u32, reservation
     if outside_limits(alphabet, depth) {
         return Verdict::Refused(Refusal::OutsideLimits);
     }
+    open_reserving(store, desk, alphabet, depth, reservation)
+}
+
+// Refusal 6 or 7, or the opening: what the other refusals left.
+fn open_reserving(
+    store: &mut [u32],
+    desk: u32,
+    alphabet: u32,
+    depth: u32,
+    reservation: u32,
+) -> Verdict
+    requires { ⌜ Openable (now store) desk (naming alphabet depth reservation) ⌝ }
+    ensures { λ r. ⌜ Moves (now (store .entry)) (atDesk desk (opening (naming alphabet depth reservation))) (outcomeOf r) (now (store .exit)) ⌝ }
+{
     if reservation == 0 {
         return Verdict::Refused(Refusal::BadReservation);
     }

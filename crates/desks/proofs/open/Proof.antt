@@ -2,7 +2,6 @@
 use mathlib.Core.Path.{_≡_, sym, _∙_}
 use mathlib.Core.Bool.{true}
 use native.Mathlib.Omega.{arith}
-use Prim.Native.Nat.{_≤_}
 use lib.Dec.{eqb→eq}
 use borrow.Author.Tests.{not-true, not-false}
 use borrow.Author.Needs.{needs}
@@ -15,9 +14,8 @@ use Rattle.store.specs.Meaning.{meaning}
 use Rattle.calls.proofs.Settled.{moves-unsound, moves-refused}
 use Rattle.desks.specs.Changes.{naming}
 use Rattle.desks.proofs.Reserving.{header-long}
-use Rattle.desks.proofs.Granting.{Ready, no-desk, outside, zero-reserved, above-room, above-left}
-use Rattle.desks.proofs.Vacant.{shut-there, room-made, open-there}
-use Rattle.desks.proofs.Beginning.{opened-moves}
+use Rattle.desks.proofs.Granting.{no-desk, outside}
+use Rattle.desks.proofs.Vacant.{shut-there, open-there}
 use Rattle.desks.proofs.open.Statement.{statement}
 use Rattle.desks.proofs.open.Tie as tie
 
@@ -31,19 +29,6 @@ shut c o =
     let x = c .before .before .before .before .before .before .before .before .args in
     let not-one : field (x .store .now) (x .desk) 0 ≡ 1 → ⊥ = omega arith in
     not-one (eqb→eq (field (x .store .now) (x .desk) 0) 1 (o .opened))
-
-ready : (c : tie.Else4) → (let x = c .before .before .before .before .before .before .before .before .before .before .args in
-    Ready (meaning (x .store .now)) (x .desk) (naming (x .alphabet) (x .depth) (x .reservation)))
-ready c =
-    let x = c .before .before .before .before .before .before .before .before .before .before .args in
-    record {
-      desk = c .before .before .before .before .before .if2 .left;
-      shut = shut-there (x .store .now) (x .desk) (shut (c .before .before));
-      limits = sym (c .before .outside-limits .ensures (x .reservation)) ∙ c .if4 .left;
-    }
-
-some : (c : tie.Else5) → 1 ≤ c .before .before .before .before .before .before .before .before .before .before .before .args .reservation
-some c = let n = c .if5 .left in omega arith
 
 -- ---- the needs
 
@@ -94,66 +79,22 @@ returns-4 c =
     let o = naming (x .alphabet) (x .depth) (x .reservation) in
     moves-refused (x .store .now) (atDesk (x .desk) (opening o)) 5 (passed (c .before .before .before .before .before .before)) (outside (meaning (x .store .now)) (x .desk) o (c .before .before .before .before .before .if2 .left) (shut-there (x .store .now) (x .desk) (shut (c .before .before))) (sym (c .before .outside-limits .ensures (x .reservation)) ∙ c .if4 .taken))
 
+open-reserving-requires : tie.Need-open-reserving-requires
+open-reserving-requires c κs =
+    let four = c .before in
+    let x = four .before .before .before .before .before .before .before .before .before .before .args in
+    record {
+      sound = passed (four .before .before .before .before .before .before);
+      desk = four .before .before .before .before .before .if2 .left;
+      shut = shut (four .before .before);
+      limits = sym (four .before .outside-limits .ensures (x .reservation)) ∙ four .if4 .left;
+    }
+
 same-length-5 : tie.Need-same-length-5
 same-length-5 c = search needs
 
 returns-5 : tie.Need-returns-5
-returns-5 c =
-    let x = c .before .before .before .before .before .before .before .before .before .before .before .args in
-    let o = naming (x .alphabet) (x .depth) (x .reservation) in
-    moves-refused (x .store .now) (atDesk (x .desk) (opening o)) 6 (passed (c .before .before .before .before .before .before .before)) (zero-reserved (meaning (x .store .now)) (x .desk) o (ready (c .before)) (c .if5 .taken))
-
-slice-read-room : tie.Need-slice-read-room
-slice-read-room c = omega (arith, header-long (c .before .before .before .before .before .before .before .before .before .before .before .before .args .store .now) (passed (c .before .before .before .before .before .before .before .before)))
-
-same-length-6 : tie.Need-same-length-6
-same-length-6 c = search needs
-
-returns-6 : tie.Need-returns-6
-returns-6 c =
-    let five = c .before .before in
-    let x = five .before .before .before .before .before .before .before .before .before .before .before .args in
-    let o = naming (x .alphabet) (x .depth) (x .reservation) in
-    moves-refused (x .store .now) (atDesk (x .desk) (opening o)) 6 (passed (five .before .before .before .before .before .before .before)) (above-room (meaning (x .store .now)) (x .desk) o (ready (five .before)) (some five) (rw (room-made (x .store .now)) (c .if6 .taken)))
-
-left-in-requires : tie.Need-left-in-requires
-left-in-requires c κs = passed (c .before .before .before .before .before .before .before .before .before .before)
-
-same-length-7 : tie.Need-same-length-7
-same-length-7 c = search needs
-
-returns-7 : tie.Need-returns-7
-returns-7 c =
-    let six = c .before .before .before in
-    let five = six .before .before in
-    let x = five .before .before .before .before .before .before .before .before .before .before .before .args in
-    let o = naming (x .alphabet) (x .depth) (x .reservation) in
-    moves-refused (x .store .now) (atDesk (x .desk) (opening o)) 7 (passed (five .before .before .before .before .before .before .before))
-    (above-left (meaning (x .store .now)) (x .desk) o (ready (five .before)) (some five) (rw (room-made (x .store .now)) (six .if6 .left)) (rw (← c .before .left-in .ensures) (c .if7 .taken)))
-
-set-up-requires : tie.Need-set-up-requires
-set-up-requires c κs =
-    let four = c .before .before .before .before .before .before .before in
-    let x = four .before .before .before .before .before .before .before .before .before .before .args in
-    (header-long (x .store .now) (passed (four .before .before .before .before .before .before)), ready four .desk)
-
-same-length-8 : tie.Need-same-length-8
-same-length-8 c = search needs
-
-returns-8 : tie.Need-returns-8
-returns-8 c =
-    let seven = c .before .before .before .before in
-    let six = seven .before .before .before in
-    let five = six .before .before in
-    let x = five .before .before .before .before .before .before .before .before .before .before .before .args in
-    let o = naming (x .alphabet) (x .depth) (x .reservation) in
-    opened-moves (x .store .now) (c .before .before .set-up .last .0) (x .desk) o (passed (five .before .before .before .before .before .before .before)) (shut (five .before .before .before))
-    (record {
-      ready = ready (five .before);
-      some = some five;
-      in-room = rw (room-made (x .store .now)) (six .if6 .left);
-      fits = rw (← seven .before .left-in .ensures) (seven .if7 .left);
-    }) (c .before .before .set-up .ensures)
+returns-5 c = search needs
 
 pub open-spec : {M : Type 1} → statement M
 open-spec =
@@ -170,14 +111,6 @@ open-spec =
     outside-limits-requires
     same-length-4
     returns-4
+    open-reserving-requires
     same-length-5
-    returns-5
-    slice-read-room
-    same-length-6
-    returns-6
-    left-in-requires
-    same-length-7
-    returns-7
-    set-up-requires
-    same-length-8
-    returns-8)
+    returns-5)
