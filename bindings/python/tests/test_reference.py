@@ -11,7 +11,7 @@ from play import answers
 from reference.built import BuiltProgram, BuiltScripts
 from sitting import output
 
-ROUNDS = 3
+ROUNDS = 2
 FILES_A_ROUND = 100
 
 
