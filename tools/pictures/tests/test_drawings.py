@@ -14,8 +14,8 @@ SVG = "{http://www.w3.org/2000/svg}"
 
 def stored(name):
     """A stored report, and the names that it is drawn with."""
-    report = read_report((STORED / f"{name}.report").read_text())
-    names = read_names(ACTS.read_text(), report.A) if name in NAMED else [str(a) for a in range(report.A)]
+    report = read_report((STORED / f"{name}.report").read_text("utf-8"))
+    names = read_names(ACTS.read_text("utf-8"), report.A) if name in NAMED else [str(a) for a in range(report.A)]
     return report, names
 
 
@@ -39,7 +39,7 @@ class Drawings(unittest.TestCase):
 
     def test_text_is_the_stored_one(self):
         for name, report, names in self.each():
-            self.assertEqual(text.drawing(report, names), (STORED / f"{name}.drawing").read_text())
+            self.assertEqual(text.drawing(report, names), (STORED / f"{name}.drawing").read_text("utf-8"))
 
     def test_svg_is_well_formed_and_tells_every_row(self):
         for _, report, names in self.each():
