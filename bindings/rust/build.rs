@@ -10,7 +10,11 @@ fn main() {
         None => PathBuf::from(concat!(env!("CARGO_MANIFEST_DIR"), "/../../target/staticlib")).join(ARCHIVE),
     };
     if !archive.ends_with(ARCHIVE) || !archive.is_file() {
-        panic!("no library at {}: write it with `rt staticlib sobumikeyo`, or name another {ARCHIVE} by SOBUMIKEYO_LIB", archive.display());
+        eprintln!(
+            "no library at {}: write it with `rt staticlib sobumikeyo`, or name another {ARCHIVE} by SOBUMIKEYO_LIB",
+            archive.display()
+        );
+        std::process::exit(1);
     }
     println!("cargo:rerun-if-changed={}", archive.display());
     println!("cargo:rustc-link-search=native={}", archive.with_file_name("").display());
