@@ -1,0 +1,42 @@
+"""Sobumikeyo for Python: two samples of coded symbols side by side, and which habits they share.
+
+A sitting has two samples. It is fed at a desk of a Store, and up to eight desks share one store. A
+Report splits what was seen into contexts (what came just before) that both samples treat alike and
+contexts that are one sample's own.
+
+>>> from sobumikeyo import Kind, Sample, Store
+>>> store = Store(64)
+>>> store.open(0, alphabet=2, depth=1, reservation=64)
+>>> store.feed_all(0, Sample.FIRST, [0, 1, 0, 1, 0, 1, 0, 1])
+>>> store.feed_all(0, Sample.SECOND, [0, 0, 1, 0, 0, 1, 0, 0])
+>>> report = store.report(0)
+>>> report.score
+-20176
+>>> [(row.context.symbols(), row.counts[:2]) for row in report.rows if row.kind is Kind.SHARED]
+[((1,), (5, 0))]
+
+A call that cannot do what it was asked raises a Refusal and changes nothing. Every call is one of
+the C library's functions, whose code is proved; what they promise is in docs/PROMISES.md.
+"""
+
+from sobumikeyo.charts import Chart
+from sobumikeyo.files import SittingFile, read
+from sobumikeyo.refusals import Refusal, Stopped
+from sobumikeyo.reports import ROW_WIDTH, Context, Kind, Report, Row
+from sobumikeyo.store import Sample, Store, store_size
+
+__all__ = [
+    "ROW_WIDTH",
+    "Chart",
+    "Context",
+    "Kind",
+    "Refusal",
+    "Report",
+    "Row",
+    "Sample",
+    "SittingFile",
+    "Stopped",
+    "Store",
+    "read",
+    "store_size",
+]

@@ -1,0 +1,138 @@
+"""The store and its desks."""
+
+from ctypes import byref, c_double, c_int64, c_uint8, c_uint32
+from enum import IntEnum
+
+from sobumikeyo.charts import Chart
+from sobumikeyo.library import CALLS, array_of, number, sheet_of
+from sobumikeyo.refusals import Stopped, refuse_unless_zero
+from sobumikeyo.reports import ROW_WIDTH, Report, row_of
+
+LARGEST_ROOM = 4096
+# As the program's sheet. What a row costs keeps reports of 512 + 512 symbols far below it.
+SHEET_ROWS = 512
+
+
+def store_size(room):
+    """How many numbers a store for so many contexts has."""
+    return 2048 + 24 * room
+
+
+class Sample(IntEnum):
+    """A sitting's two samples."""
+
+    FIRST = 0
+    SECOND = 1
+
+
+class Store:
+    """A store: room for contexts, shared by up to eight desks, 0 to 7. It owns its numbers.
+
+    Every call raises Refusal where it cannot do what it was asked, and has then changed nothing.
+
+    >>> store = Store(100)
+    >>> store.open(0, alphabet=2, depth=1, reservation=60)
+    >>> store.open(1, alphabet=3, depth=2, reservation=40)
+    >>> store.feed(0, Sample.FIRST, 1)
+    >>> store.feed(1, Sample.FIRST, 2)
+    >>> store.close(0)
+    >>> store.room_left()
+    60
+    >>> store.close(0)
+    Traceback (most recent call last):
+    sobumikeyo.refusals.Refusal: refused 4: The desk is not open. Open it first.
+    """
+
+    def __init__(self, room):
+        """A new store with room for so many contexts and no open desk; refusal 17."""
+        # a room that will be refused needs no memory
+        self._lent = array_of(c_uint32, (0,) * store_size(min(number(room), LARGEST_ROOM)))
+        self.make(room)
+
+    @classmethod
+    def of_numbers(cls, numbers):
+        """A store of numbers that were kept from another. Any numbers may be given: where they are no
+        store, every call but make gets refusal 1."""
+        store = cls.__new__(cls)
+        store._lent = array_of(c_uint32, tuple(map(number, numbers)))
+        return store
+
+    def numbers(self):
+        """The numbers, to be kept."""
+        array, many = self._lent
+        return tuple(array[:many])
+
+    def is_sound(self):
+        """Whether the numbers are a store. Every store that calls have left is one."""
+        return self._call("sound")
+
+    def make(self, room):
+        """Makes the store anew, whatever it was; refusals 17 and 18."""
+        refuse_unless_zero(self._call("make", number(room)))
+
+    def open(self, desk, alphabet, depth, reservation):
+        """Opens a desk for symbols below `alphabet` and contexts of up to `depth` symbols. The sitting may
+        have `reservation` contexts."""
+        refuse_unless_zero(self._call("open", *map(number, (desk, alphabet, depth, reservation))))
+
+    def feed(self, desk, sample, symbol):
+        """One more symbol of a sample."""
+        refuse_unless_zero(self._call("feed", *map(number, (desk, sample, symbol))))
+
+    def feed_all(self, desk, sample, symbols):
+        """Feeds the symbols (bytes, or numbers below 256) in their order, up to the first that is refused;
+        those before it stay fed, and Stopped says how many. Quicker than as many feeds."""
+        why = c_uint32()
+        run = array_of(c_uint8, bytes(iter(symbols)))
+        accepted = self._call("feed_all", number(desk), number(sample), *run, byref(why))
+        if why.value:
+            raise Stopped(why.value, accepted)
+
+    def close(self, desk):
+        """Closes a desk. What it reserved is free for any later opening."""
+        refuse_unless_zero(self._call("close", number(desk)))
+
+    def room_left(self):
+        """How many contexts are left to reserve."""
+        left = c_uint32()
+        refuse_unless_zero(self._call("room", byref(left)))
+        return left.value
+
+    def report(self, desk):
+        """The report on a desk."""
+        sheet = (c_uint32 * (SHEET_ROWS * ROW_WIDTH))()
+        rows, score = self.report_on(desk, sheet, 0)
+        return Report(tuple(row_of(sheet[ROW_WIDTH * row : ROW_WIDTH * (row + 1)]) for row in range(rows)), score)
+
+    def report_on(self, desk, sheet, place):
+        """Writes the report's rows on a sheet, such as an array.array("I"), from row `place` on, eleven
+        numbers each; answers how many there are and the score. No number outside those rows is written."""
+        rows, score = c_uint32(), c_int64()
+        refuse_unless_zero(
+            self._call("report", number(desk), *sheet_of(sheet), number(place), byref(rows), byref(score))
+        )
+        return rows.value, score.value
+
+    def chart(self, desk, context, symbol):
+        """How often, of the times that a sample saw the context, the symbol came next.
+
+        >>> from sobumikeyo import Context
+        >>> store = Store(8)
+        >>> store.open(0, alphabet=2, depth=1, reservation=8)
+        >>> store.feed_all(0, Sample.FIRST, [0, 1, 0, 0])
+        >>> store.chart(0, Context.of([0]), 1)
+        Chart(first=0.5, second=None, gap=None)
+        """
+        seen, first, second, gap = c_uint32(), c_double(), c_double(), c_double()
+        asked = map(number, (desk, *context, symbol))
+        refuse_unless_zero(self._call("chart", *asked, byref(seen), byref(first), byref(second), byref(gap)))
+        by_first, by_second = seen.value in (1, 3), seen.value in (2, 3)
+        return Chart(
+            first.value if by_first else None,
+            second.value if by_second else None,
+            gap.value if by_first and by_second else None,
+        )
+
+    def _call(self, name, *others):
+        """One of the library's functions, with the store's numbers lent first."""
+        return CALLS[name](*self._lent, *others)

@@ -1,0 +1,56 @@
+"""Document 01's marked examples."""
+
+import unittest
+
+from sobumikeyo import Context, Kind, Sample, Stopped, Store
+
+SHARED, FIRST, SECOND = Kind
+
+
+def report(depth, first, second):
+    store = Store(3)
+    store.open(0, 2, depth, 3)
+    store.feed_all(0, Sample.FIRST, first)
+    store.feed_all(0, Sample.SECOND, second)
+    return store.report(0)
+
+
+class Marked(unittest.TestCase):
+    def check(self, told, rows, score):
+        """The rows by kind, symbols and the counts of the two symbols."""
+        expected = tuple((kind, Context.of(symbols), counts + (0,) * 6) for kind, symbols, counts in rows)
+        self.assertEqual(told.rows, expected)
+        self.assertEqual(told.score, score)
+
+    def test_j1_two_shared_contexts(self):
+        told = report(1, [0, 1, 0, 1], [0, 1, 0, 1])
+        self.check(told, [(SHARED, [0], (0, 4)), (SHARED, [1], (2, 0))], -6144)
+        self.assertEqual(told.first_tree(), told.second_tree())
+
+    def test_j1_needs_three_contexts(self):
+        store = Store(2)
+        store.open(0, 2, 1, 2)
+        with self.assertRaises(Stopped) as stopped:
+            store.feed_all(0, Sample.FIRST, [0, 1, 0, 1])
+        self.assertEqual((stopped.exception.accepted, stopped.exception.number), (2, 10))
+
+    def test_j2_all_their_own(self):
+        told = report(1, [0, 1, 0, 1], [0, 0, 0, 0])
+        self.check(told, [(SECOND, [], (4, 0)), (FIRST, [0], (0, 2)), (FIRST, [1], (1, 0))], -6144)
+        self.assertEqual((len(told.first_tree()), len(told.second_tree())), (2, 1))
+
+    def test_j3_one_habit_shared(self):
+        told = report(1, [0, 1, 0, 1, 0, 1, 0, 1], [0, 0, 1, 0, 0, 1, 0, 0])
+        self.check(told, [(FIRST, [0], (0, 4)), (SECOND, [0], (3, 2)), (SHARED, [1], (5, 0))], -20176)
+        self.assertEqual([row.kind for row in told.first_tree()], [FIRST, SHARED])
+        self.assertEqual([row.kind for row in told.second_tree()], [SECOND, SHARED])
+
+    def test_j4_no_memory(self):
+        self.check(report(0, [0, 1, 0, 1], [0, 1, 0, 1]), [(SHARED, [], (4, 4))], -19456)
+
+    def test_j5_equal_samples_need_not_be_shared(self):
+        self.check(report(1, [0], [0]), [(FIRST, [], (1, 0)), (SECOND, [], (1, 0))], 0)
+
+
+if __name__ == "__main__":
+    unittest.main()

@@ -1,0 +1,35 @@
+//! Sobumikeyo for Rust: two samples of coded symbols side by side, and which habits they share.
+//!
+//! A sitting has two samples. It is fed at a desk of a [`Store`], and up to eight desks share one store. A [`Report`] splits what was
+//! seen into contexts (what came just before) that both samples treat alike and contexts that are one sample's own.
+//!
+//! ```
+//! use sobumikeyo::{Desk, Kind, Sample, Store};
+//!
+//! let mut store = Store::new(64)?;
+//! store.open(Desk(0), 2, 1, 64)?;
+//! store.feed_all(Desk(0), Sample::FIRST, &[0, 1, 0, 1, 0, 1, 0, 1])?;
+//! store.feed_all(Desk(0), Sample::SECOND, &[0, 0, 1, 0, 0, 1, 0, 0])?;
+//! let report = store.report(Desk(0))?;
+//! assert_eq!(report.score, -20176);
+//! let shared: Vec<_> = report.rows.iter().filter(|row| row.kind == Kind::Shared).collect();
+//! assert_eq!(shared[0].context.symbols(), [1]);
+//! assert_eq!(shared[0].counts[..2], [5, 0]);
+//! # Ok::<(), sobumikeyo::Refusal>(())
+//! ```
+//!
+//! A call that cannot do what it was asked answers a [`Refusal`] and changes nothing. Every call is one of the C library's functions,
+//! whose code is proved; what they promise is in the repository's `docs/PROMISES.md`.
+
+mod calls;
+mod chart;
+mod file;
+mod refusal;
+mod report;
+mod store;
+
+pub use chart::{Chart, Point};
+pub use file::{read, SittingFile};
+pub use refusal::{Refusal, Stopped};
+pub use report::{Context, Kind, Report, Row, ROW_WIDTH};
+pub use store::{store_size, Desk, Sample, Store};

@@ -1,0 +1,138 @@
+//! Refusals: a number each, with the words of `docs/REFUSALS.md`.
+use std::error::Error;
+use std::fmt;
+
+/// Why a call was refused. A refused call changes nothing.
+///
+/// ```
+/// let refusal = sobumikeyo::Store::new(0).unwrap_err();
+/// assert_eq!(refusal.number(), 17);
+/// assert_eq!(refusal.to_string(), "refused 17: The room asked for is outside its limits. Ask for room for 1 to 4,096 contexts.");
+/// ```
+#[derive(Clone, Copy, Debug, PartialEq, Eq, Hash)]
+pub struct Refusal {
+    number: u32,
+}
+
+impl Refusal {
+    /// What a call's answer says: 0 is accepted.
+    pub(crate) fn unless_zero(answer: u32) -> Result<(), Refusal> {
+        match answer {
+            0 => Ok(()),
+            number => Err(Refusal { number }),
+        }
+    }
+
+    /// The refusal that `Context::of` gives for what no sitting can have.
+    pub(crate) const NOT_OF_SITTING: Refusal = Refusal { number: 8 };
+
+    /// Its number, 1 to 18.
+    pub fn number(self) -> u32 {
+        self.number
+    }
+
+    /// What happened, in a sentence.
+    pub fn happened(self) -> &'static str {
+        self.words().0
+    }
+
+    /// What to do, in a sentence.
+    pub fn advice(self) -> &'static str {
+        self.words().1
+    }
+
+    fn words(self) -> (&'static str, &'static str) {
+        WORDS[self.number as usize - 1]
+    }
+}
+
+impl fmt::Display for Refusal {
+    fn fmt(&self, to: &mut fmt::Formatter<'_>) -> fmt::Result {
+        write!(to, "refused {}: {} {}", self.number, self.happened(), self.advice())
+    }
+}
+
+impl Error for Refusal {}
+
+/// A run of feeds that stopped at a refusal: the symbols before it stay fed.
+#[derive(Clone, Copy, Debug, PartialEq, Eq, Hash)]
+pub struct Stopped {
+    /// How many symbols were accepted.
+    pub accepted: u32,
+    /// What the next one got.
+    pub refusal: Refusal,
+}
+
+impl fmt::Display for Stopped {
+    fn fmt(&self, to: &mut fmt::Formatter<'_>) -> fmt::Result {
+        write!(to, "after {} symbols: {}", self.accepted, self.refusal)
+    }
+}
+
+impl Error for Stopped {}
+
+impl From<Stopped> for Refusal {
+    fn from(stopped: Stopped) -> Refusal {
+        stopped.refusal
+    }
+}
+
+/// What happened and what to do, refusal 1 first.
+const WORDS: [(&str, &str); 18] = [
+    (
+        "The store was never made, or its numbers were changed from outside.",
+        "Make it anew, or go back to a copy that was kept; only the calls may write to it.",
+    ),
+    ("There is no such desk.", "Name a desk from 0 to 7."),
+    ("The desk is already open.", "Close it first, or open another."),
+    ("The desk is not open.", "Open it first."),
+    ("The alphabet or the depth is outside its limits.", "Name an alphabet of 2 to 8 symbols and a depth from 0 to 6."),
+    ("The reservation is 0, or more than the store has room for.", "Reserve at least 1 context and at most the store's room."),
+    ("The reservation is more than the room left.", "Reserve less, or close a desk that has done its work."),
+    (
+        "The sitting has no such sample, symbol or context.",
+        "Name sample 0 or 1, symbols below the alphabet's size, and contexts no longer than the depth.",
+    ),
+    ("The sample already has 512 symbols.", "Feed it no more; further acts need a sitting of their own."),
+    (
+        "The sitting would have more contexts than it reserved.",
+        "Reserve more at opening, or take a smaller depth, and feed both samples again.",
+    ),
+    ("A sample is still empty.", "Feed each of the two samples at least one symbol before the report."),
+    ("The report's rows do not fit the sheet.", "Lend a longer sheet, or begin at an earlier row."),
+    ("The file ends too early.", "See that all of it was copied, and that it has as many symbols as its header says."),
+    ("A number in the file is not in its shortest form.", "Write it in as few bytes as it needs, which is never more than two."),
+    (
+        "A number in the file is outside its limits.",
+        "Keep the alphabet from 2 to 8, the depth to 6, each length to 512, and each symbol below the alphabet's size.",
+    ),
+    ("The file goes on after its last symbol.", "Take the last bytes away, or correct the lengths in its header."),
+    ("The room asked for is outside its limits.", "Ask for room for 1 to 4,096 contexts."),
+    ("Too few numbers were lent for the store.", "Lend at least 2,048 numbers and 24 more for each context of its room."),
+];
+
+#[cfg(test)]
+mod tests {
+    use super::*;
+
+    /// The rows of the table in docs/REFUSALS.md: number, what happened, what to do.
+    fn table() -> Vec<(String, String, String)> {
+        include_str!("../../../docs/REFUSALS.md")
+            .lines()
+            .filter_map(|line| {
+                let cells: Vec<&str> = line.split('|').map(str::trim).collect();
+                let row = cells.len() == 5 && cells[1].parse::<u32>().is_ok();
+                row.then(|| (cells[1].to_string(), cells[2].to_string(), cells[3].to_string()))
+            })
+            .collect()
+    }
+
+    #[test]
+    fn the_words_are_the_tables() {
+        let ours: Vec<_> = (1..=18)
+            .map(|number| Refusal { number })
+            .map(|refusal| (refusal.number.to_string(), refusal.happened().to_string(), refusal.advice().to_string()))
+            .collect();
+        assert_eq!(ours, table());
+    }
+}

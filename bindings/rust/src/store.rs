@@ -1,0 +1,166 @@
+//! The store and its desks.
+use crate::report::{Report, Row, ROW_WIDTH};
+use crate::{calls, Chart, Context, Point, Refusal, Stopped};
+
+/// The largest room that a making accepts.
+const LARGEST_ROOM: u32 = 4096;
+/// How many rows a report's sheet has, as the program's. What a row costs keeps reports of 512 + 512 symbols far below it.
+const SHEET_ROWS: usize = 512;
+
+/// How many numbers a store for so many contexts has.
+pub const fn store_size(room: u32) -> usize {
+    2048 + 24 * room as usize
+}
+
+/// A desk by its number, 0 to 7; any other gets refusal 2.
+///
+/// It is a name and no loan, so the desks of one store can be used in turn.
+#[derive(Clone, Copy, Debug, PartialEq, Eq, Hash)]
+pub struct Desk(pub u32);
+
+/// A sitting's sample by its number, 0 or 1; any other gets refusal 8.
+#[derive(Clone, Copy, Debug, PartialEq, Eq, Hash)]
+pub struct Sample(pub u32);
+
+impl Sample {
+    pub const FIRST: Sample = Sample(0);
+    pub const SECOND: Sample = Sample(1);
+}
+
+/// A store: room for contexts, shared by up to eight desks. It owns its numbers.
+///
+/// ```
+/// use sobumikeyo::{Desk, Sample, Store};
+///
+/// let mut store = Store::new(100)?;
+/// let (morning, evening) = (Desk(0), Desk(1));
+/// store.open(morning, 2, 1, 60)?;
+/// store.open(evening, 3, 2, 40)?;
+/// store.feed(morning, Sample::FIRST, 1)?;
+/// store.feed(evening, Sample::FIRST, 2)?;
+/// assert_eq!(store.room_left()?, 0);
+/// store.close(morning)?;
+/// assert_eq!(store.room_left()?, 60);
+/// # Ok::<(), sobumikeyo::Refusal>(())
+/// ```
+#[derive(Clone, Debug, PartialEq, Eq)]
+pub struct Store {
+    numbers: Vec<u32>,
+}
+
+// Why every `unsafe` below is sound: each pointer and length are those of one slice, each output is a variable that was
+// initialised, `&mut self` and `&mut` sheets overlap nothing, and no function keeps a pointer.
+impl Store {
+    /// A new store with room for so many contexts and no open desk; refusal 17.
+    pub fn new(room: u32) -> Result<Store, Refusal> {
+        // a room that will be refused needs no memory
+        let mut store = Store::of_numbers(vec![0; store_size(room.min(LARGEST_ROOM))]);
+        store.make(room)?;
+        Ok(store)
+    }
+
+    /// A store of numbers that were kept from another. Any numbers may be given: where they are no store, every call but
+    /// [`make`](Store::make) gets refusal 1.
+    pub fn of_numbers(numbers: Vec<u32>) -> Store {
+        Store { numbers }
+    }
+
+    /// The numbers, to be kept.
+    pub fn numbers(&self) -> &[u32] {
+        &self.numbers
+    }
+
+    /// The numbers, given back.
+    pub fn into_numbers(self) -> Vec<u32> {
+        self.numbers
+    }
+
+    /// Whether the numbers are a store. Every store that calls have left is one.
+    pub fn is_sound(&self) -> bool {
+        unsafe { calls::sobumikeyo_sound(self.numbers.as_ptr(), self.numbers.len()) }
+    }
+
+    /// Makes the store anew, whatever it was; refusals 17 and 18.
+    pub fn make(&mut self, room: u32) -> Result<(), Refusal> {
+        Refusal::unless_zero(unsafe { calls::sobumikeyo_make(self.numbers.as_mut_ptr(), self.numbers.len(), room) })
+    }
+
+    /// Opens a desk for symbols below `alphabet` and contexts of up to `depth` symbols. The sitting may have `reservation` contexts.
+    pub fn open(&mut self, desk: Desk, alphabet: u32, depth: u32, reservation: u32) -> Result<(), Refusal> {
+        let (numbers, len) = (self.numbers.as_mut_ptr(), self.numbers.len());
+        Refusal::unless_zero(unsafe { calls::sobumikeyo_open(numbers, len, desk.0, alphabet, depth, reservation) })
+    }
+
+    /// One more symbol of a sample.
+    pub fn feed(&mut self, desk: Desk, sample: Sample, symbol: u32) -> Result<(), Refusal> {
+        let (numbers, len) = (self.numbers.as_mut_ptr(), self.numbers.len());
+        Refusal::unless_zero(unsafe { calls::sobumikeyo_feed(numbers, len, desk.0, sample.0, symbol) })
+    }
+
+    /// Feeds the symbols in their order, up to the first that is refused; those before it stay fed.
+    /// Quicker than as many feeds: the store is tested once.
+    pub fn feed_all(&mut self, desk: Desk, sample: Sample, symbols: &[u8]) -> Result<(), Stopped> {
+        let (numbers, len) = (self.numbers.as_mut_ptr(), self.numbers.len());
+        let mut why = 0;
+        let accepted = unsafe { calls::sobumikeyo_feed_all(numbers, len, desk.0, sample.0, symbols.as_ptr(), symbols.len(), &mut why) };
+        Refusal::unless_zero(why).map_err(|refusal| Stopped { accepted, refusal })
+    }
+
+    /// Closes a desk. What it reserved is free for any later opening.
+    pub fn close(&mut self, desk: Desk) -> Result<(), Refusal> {
+        Refusal::unless_zero(unsafe { calls::sobumikeyo_close(self.numbers.as_mut_ptr(), self.numbers.len(), desk.0) })
+    }
+
+    /// How many contexts are left to reserve.
+    pub fn room_left(&self) -> Result<u32, Refusal> {
+        let mut left = 0;
+        Refusal::unless_zero(unsafe { calls::sobumikeyo_room(self.numbers.as_ptr(), self.numbers.len(), &mut left) })?;
+        Ok(left)
+    }
+
+    /// The report on a desk.
+    pub fn report(&self, desk: Desk) -> Result<Report, Refusal> {
+        let mut sheet = [0; SHEET_ROWS * ROW_WIDTH];
+        let (rows, score) = self.report_on(desk, &mut sheet, 0)?;
+        let rows = sheet.chunks_exact(ROW_WIDTH).take(rows as usize).map(Row::of_numbers).collect();
+        Ok(Report { rows, score })
+    }
+
+    /// Writes the report's rows on a sheet from row `place` on, eleven numbers each, and answers how many there are and the score.
+    /// No number outside those rows is written.
+    pub fn report_on(&self, desk: Desk, sheet: &mut [u32], place: u32) -> Result<(u32, i64), Refusal> {
+        let (numbers, len) = (self.numbers.as_ptr(), self.numbers.len());
+        let (mut rows, mut score) = (0, 0);
+        Refusal::unless_zero(unsafe {
+            calls::sobumikeyo_report(numbers, len, desk.0, sheet.as_mut_ptr(), sheet.len(), place, &mut rows, &mut score)
+        })?;
+        Ok((rows, score))
+    }
+
+    /// How often, of the times that a sample saw the context, the symbol came next.
+    ///
+    /// ```
+    /// use sobumikeyo::{Chart, Context, Desk, Sample, Store};
+    ///
+    /// let mut store = Store::new(8)?;
+    /// store.open(Desk(0), 2, 1, 8)?;
+    /// store.feed_all(Desk(0), Sample::FIRST, &[0, 1, 0, 0, 1])?;
+    /// assert_eq!(store.chart(Desk(0), Context::of(&[0])?, 1)?, Chart::First(2.0 / 3.0));
+    /// # Ok::<(), sobumikeyo::Refusal>(())
+    /// ```
+    pub fn chart(&self, desk: Desk, context: Context, symbol: u32) -> Result<Chart, Refusal> {
+        let (numbers, len) = (self.numbers.as_ptr(), self.numbers.len());
+        let Context { length, code } = context;
+        let mut seen = 0;
+        let (mut first, mut second, mut gap) = (0.0, 0.0, 0.0);
+        Refusal::unless_zero(unsafe {
+            calls::sobumikeyo_chart(numbers, len, desk.0, length, code, symbol, &mut seen, &mut first, &mut second, &mut gap)
+        })?;
+        Ok(match seen {
+            0 => Chart::Neither,
+            1 => Chart::First(first),
+            2 => Chart::Second(second),
+            _ => Chart::Both(Point { first, second, gap }),
+        })
+    }
+}

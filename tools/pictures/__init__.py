@@ -1,0 +1,1 @@
+"""Pictures of reports: what the program printed, as a drawing in text and as SVG."""

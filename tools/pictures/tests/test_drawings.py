@@ -1,0 +1,73 @@
+"""The drawings of stored reports: the text is the one kept beside them, and the SVG is one that can be read."""
+
+import unittest
+import xml.etree.ElementTree as ElementTree
+from collections import Counter
+
+from pictures import svg, text
+from pictures.places import text_width
+from pictures.report import Kind, read_names, read_report
+from pictures.tests import ACTS, NAMED, NUMBERED, STORED
+
+SVG = "{http://www.w3.org/2000/svg}"
+
+
+def stored(name):
+    """A stored report, and the names that it is drawn with."""
+    report = read_report((STORED / f"{name}.report").read_text("utf-8"))
+    names = read_names(ACTS.read_text("utf-8"), report.A) if name in NAMED else [str(a) for a in range(report.A)]
+    return report, names
+
+
+def box(element):
+    """Where a text stands: left, right, top, bottom."""
+    size, x, y = (float(element.get(name)) for name in ("font-size", "x", "y"))
+    width = text_width(element.text, size)
+    left = x - {"start": 0, "middle": width / 2, "end": width}[element.get("text-anchor")]
+    return left, left + width, y - 0.75 * size, y
+
+
+def overlap(one, other):
+    return one[0] < other[1] and other[0] < one[1] and one[2] < other[3] and other[2] < one[3]
+
+
+class Drawings(unittest.TestCase):
+    def each(self):
+        for name in NAMED + NUMBERED:
+            with self.subTest(name):
+                yield name, *stored(name)
+
+    def test_text_is_the_stored_one(self):
+        for name, report, names in self.each():
+            self.assertEqual(text.drawing(report, names), (STORED / f"{name}.drawing").read_text("utf-8"))
+
+    def test_svg_is_well_formed_and_tells_every_row(self):
+        for _, report, names in self.each():
+            root = ElementTree.fromstring(svg.drawing(report, names))
+            self.assertEqual(root.tag, f"{SVG}svg")
+            self.assertEqual(root.find(f"{SVG}title").text, svg.title(report))
+            told = Counter(element.text for element in root.iter(f"{SVG}text"))
+            labels = Counter(row.label(names) for row in report.rows)
+            self.assertEqual(labels - told, Counter())
+            totals = Counter(str(row.total) for row in report.rows if row.total)
+            self.assertEqual(totals - told, Counter())
+
+    def test_kinds_have_their_colour_and_shape(self):
+        shapes = {Kind.SHARED: "circle", Kind.FIRST: "rect", Kind.SECOND: "path"}
+        self.assertEqual(len(set(svg.COLOURS.values())), len(shapes))
+        for kind, shape in shapes.items():
+            element = ElementTree.fromstring(svg.mark(kind, 0, 0))
+            self.assertEqual((element.tag, element.get("fill")), (shape, svg.COLOURS[kind]))
+
+    def test_no_text_stands_on_another_or_outside(self):
+        for _, report, names in self.each():
+            root = ElementTree.fromstring(svg.drawing(report, names))
+            width, height = float(root.get("width")), float(root.get("height"))
+            straight = [box(element) for element in root.iter(f"{SVG}text") if not element.get("transform")]
+            for place, one in enumerate(straight):
+                self.assertTrue(0 <= one[0] and one[1] <= width and 0 <= one[2] and one[3] <= height)
+                self.assertFalse(any(overlap(one, other) for other in straight[place + 1 :]))
+
+
+if __name__ == "__main__":
+    unittest.main()
