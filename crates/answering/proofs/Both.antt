@@ -1,26 +1,22 @@
 -- The desk opens, and the file's two samples are its strings: all of them where they fit the reservation, else 10. Assumes nothing.
-use Prim.Native.Nat.{ℕ, _+_, _≤_, _<_}
+use Prim.Native.Nat.{ℕ, _≤_}
 use native.Mathlib.Nat.{lt-of-lt-of-le}
 use native.Mathlib.Omega.{arith}
-use mathlib.Core.Path.{_≡_, refl, sym, ap, subst, fun-ext, _∙_}
-use mathlib.Core.Bool.{Bool, true, false, cond}
-use mathlib.Core.List.{List, [], _∷_, reverseAux}
-use lib.ListN.{length}
-use lib.Dec.{ltb}
+use mathlib.Core.Path.{_≡_, refl, ap, subst, fun-ext, _∙_}
+use mathlib.Core.List.{List, [], reverseAux}
 use borrow.Author.Tests.{le-ltb}
-use Rattle.numbers.specs.Limits.{longest}
 use Rattle.numbers.specs.Sum.{sum}
-use Rattle.contexts.specs.Sitting.{Sample, first, second, Progress, contextsHeld}
-use Rattle.replay.specs.Room.{Opening, Desk, closed, opened, Room, new, left, reserved}
-use Rattle.replay.specs.Table.{Outcome, refused, answered, verdictOf}
+use Rattle.contexts.specs.Sitting.{Sample, first, second, contextsHeld}
+use Rattle.replay.specs.Room.{Opening, new, left, reserved}
+use Rattle.replay.specs.Table.{answered, verdictOf}
 use Rattle.replay.specs.Machine.{opening, atDesk, verdict, move, shift, settle, put, moved, tableOf, tableAt, openingTable, outsideLimits, zeroOrAboveK, aboveRoomLeft, answerOf, answerAt}
-use Rattle.rules.specs.Rules.{Answer, done, rules}
+use Rattle.rules.specs.Rules.{done, rules}
 use Rattle.rules.specs.Strings.{sittingFor}
 use Rattle.rules.proofs.TrueCounts.{stands-fresh}
 use Rattle.feeding.specs.Run.{Run, fedRun}
 use Rattle.sitting_file.specs.Samples.{InLimits, Holds, firstOf, secondOf}
 use Rattle.sitting_file.specs.declared.Shape.{Shape}
-use Rattle.answering.specs.Judgement.{roomMade, openingOf, stringsIn, sittingIn}
+use Rattle.answering.specs.Judgement.{roomMade, openingOf, stringsIn}
 use Rattle.answering.specs.Sitting.{seated, followedBy, fedBoth, runOf}
 use Rattle.answering.proofs.Growing.{held-none, pushed, held-pushed, pushed-is}
 use Rattle.answering.proofs.Feeds.{Sits, Ran, whole, stopped, run-told}

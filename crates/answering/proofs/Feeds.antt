@@ -1,21 +1,20 @@
 -- THE FEEDS: at a desk with two strings, a run of symbols goes through exactly where the longer strings fit the reservation, and is refused with
 -- 10 where they do not. Assumes nothing.
-use Prim.Native.Nat.{ℕ, zero, suc, _+_, _≤_, _<_}
+use Prim.Native.Nat.{ℕ, suc, _+_, _≤_, _<_}
 use native.Mathlib.Nat.{lt-of-lt-of-le}
 use native.Mathlib.Omega.{arith}
-use mathlib.Core.Path.{_≡_, refl, sym, ap, subst, _∙_}
+use mathlib.Core.Path.{_≡_, refl, ap, _∙_}
 use mathlib.Core.Bool.{Bool, true, false, cond}
 use mathlib.Core.List.{List, [], _∷_}
-use lib.ListN.{length, getD}
+use lib.ListN.{length}
 use lib.Dec.{ltb}
 use borrow.Author.Tests.{ltb-true, ltb-false, lt-ltb, le-ltb, lt-leb}
 use Rattle.numbers.specs.Limits.{longest}
-use Rattle.numbers.specs.Sum.{one}
-use Rattle.contexts.specs.Sitting.{Sample, first, second, sameSample, sampleOf, Progress, contextsHeld}
-use Rattle.replay.specs.Room.{Opening, Desk, closed, opened, Room}
-use Rattle.replay.specs.Table.{Outcome, refused, answered, verdictOf}
-use Rattle.replay.specs.Machine.{asking, verdict, move, shift, settle, put, moved, tableOf, tableAt, askingTable, ownLines, answerOf, answerAt}
-use Rattle.rules.specs.Rules.{Answer, done, feed, rules, linesOf, nextOf}
+use Rattle.contexts.specs.Sitting.{Sample, first, second, sampleOf, Progress, contextsHeld}
+use Rattle.replay.specs.Room.{Opening, opened, Room}
+use Rattle.replay.specs.Table.{refused, answered, verdictOf}
+use Rattle.replay.specs.Machine.{verdict, move, shift, settle, put, moved, tableOf, tableAt, askingTable, ownLines, answerOf, answerAt}
+use Rattle.rules.specs.Rules.{done, rules, linesOf, nextOf}
 use Rattle.rules.specs.Rules as sitting
 use Rattle.rules.specs.Feed.{fed, pastReservation}
 use Rattle.rules.specs.Strings.{push, sittingFor, StandsFor}
@@ -24,7 +23,7 @@ use Rattle.rules.proofs.OwnReport.{many-same}
 use Rattle.feeding.specs.Run.{Run, feeding, fedRun}
 use Rattle.feeding.specs.Run as run
 use Rattle.sitting_file.specs.Samples.{Below}
-use Rattle.answering.proofs.Growing.{held-more, pushed, held-pushed}
+use Rattle.answering.proofs.Growing.{pushed, held-pushed}
 
 -- desk 0 is open, and has what two strings make it
 pub record Sits (o : Opening) (w : Sample → List ℕ) (ρ : Room Progress) : Type 0 where

@@ -16,7 +16,7 @@ use Rattle.store.specs.Sound.{soundb}
 use Rattle.store.specs.Meaning.{meaning}
 use Rattle.store.specs.Making.{Makes, madeOf}
 use Rattle.store.specs.declared.Made.{Made}
-use Rattle.store.specs.declared.Made.the-variants.{Done, RoomOutside, StoreShort}
+use Rattle.store.specs.declared.Made.the-variants.{Done}
 use Rattle.rules.specs.Rules.{Answer, done, rules}
 use Rattle.calls.specs.Promises.{Moves}
 use Rattle.calls.specs.Refusals.{refusalNumber}

@@ -8,7 +8,7 @@ use Rattle.sitting_file.specs.declared.Shape.{Shape}
 use Rattle.sitting_file.specs.declared.Refusal.{Refusal}
 use Rattle.sitting_file.specs.declared.Reading.{Reading}
 use Rattle.sitting_file.specs.declared.Reading.the-variants.{Accepted, Refused}
-use Rattle.answering.specs.Sitting.{runOf, Means}
+use Rattle.answering.specs.Sitting.{runOf}
 use Rattle.answering.specs.Answers.{StoreAfter, Answers}
 use Rattle.answering.specs.declared.SittingAnswer.{SittingAnswer}
 

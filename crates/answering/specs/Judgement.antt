@@ -6,7 +6,7 @@ use mathlib.Core.List.{List, [], _∷_, reverse}
 use lib.Dec.{eqb, ltb}
 use Rattle.contexts.specs.Sitting.{Sample, first, second, Sitting, contextsHeld}
 use Rattle.replay.specs.Room.{Opening}
-use Rattle.replay.specs.Table.{Line, _when_, Outcome, refused, answered, verdictOf}
+use Rattle.replay.specs.Table.{Line, _when_, Outcome, refused, verdictOf}
 use Rattle.rules.specs.Report.{Reported, report, doesNotFit}
 use Rattle.rules.specs.Strings.{sittingFor}
 use Rattle.desks.specs.Changes.{naming}
@@ -19,6 +19,10 @@ use Rattle.sitting_file.specs.declared.Reading.the-variants as reading
 -- "K 256", "r 256"
 abbrev pub roomMade : ℕ
 roomMade = 256
+
+-- "a sheet of 512 rows"
+abbrev pub sheetNumbers : ℕ
+sheetNumbers = 5632
 
 abbrev pub openingOf : Shape → Opening
 openingOf shape = naming (shape .alphabet) (shape .depth) roomMade

@@ -7,15 +7,18 @@ ghost use Rattle.store.specs.Layout.{storeSize};
 ghost use Rattle.store.specs.Sound.{soundb};
 ghost use Rattle.store.specs.Meaning.{meaning};
 ghost use Rattle.feeding.specs.Run.{endingOf};
+ghost use Rattle.printing.specs.Putting.{Printed};
 ghost use Rattle.sitting_file.specs.Format.{readOf};
 ghost use Rattle.sitting_file.specs.Samples.{InLimits};
 ghost use Rattle.sitting_file.specs.declared.Reading.the-variants.{Accepted};
 ghost use Rattle.answering.specs.Judgement.{roomMade};
 ghost use Rattle.answering.specs.Sitting.{seated, fedBoth, runOf, Means, Feeds};
 ghost use Rattle.answering.specs.Answers.{toldOf, Answers};
+ghost use Rattle.answering.specs.Prints.{CanPrint, textFrom, Prints};
 use calls::ReportAnswer;
 use feeding::Ending;
 use printing::Head;
+use printing::TEXT_BYTES;
 use sitting_file::Reading;
 use sitting_file::Shape;
 
@@ -47,6 +50,30 @@ pub fn sitting_answer(
     match sitting_file::read(file) {
         Reading::Refused(why) => SittingAnswer::Refused(sitting_file::refusal_number(why)),
         Reading::Accepted(shape) => answer_accepted(file, shape, store, sheet),
+    }
+}
+
+// Puts the answer to a file at the start of the buffer as text, and answers how many bytes it has.
+pub fn sitting_text(
+    file: &[u8],
+    store: &mut [u32; STORE_NUMBERS],
+    sheet: &mut [u32; SHEET_NUMBERS],
+    buffer: &mut [u8; TEXT_BYTES],
+) -> usize
+    ensures { λ r. ⌜ Prints (now (file .entry)) (now (store .entry)) (now (sheet .entry)) (now (buffer .entry)) r (now (store .exit)) (now (sheet .exit)) (now (buffer .exit)) ⌝ }
+{
+    let answer = sitting_answer(file, store, sheet);
+    put_answer(buffer, answer, sheet)
+}
+
+// Puts an answer's text, with the rows that stand on the sheet.
+fn put_answer(buffer: &mut [u8; TEXT_BYTES], answer: SittingAnswer, sheet: &[u32]) -> usize
+    requires { ⌜ CanPrint answer (now sheet) ⌝ }
+    ensures { λ r. ⌜ Printed (textFrom answer (now (sheet .entry))) (now (buffer .entry)) (now (buffer .exit)) r ⌝ }
+{
+    match answer {
+        SittingAnswer::Reported(head) => printing::put_report(buffer, head, sheet),
+        SittingAnswer::Refused(number) => printing::put_refusal(buffer, number),
     }
 }
 
