@@ -8,6 +8,9 @@ use Rattle.sitting_file.specs.declared.Shape.{Shape}
 use Rattle.sitting_file.specs.declared.Refusal.{Refusal}
 use Rattle.sitting_file.specs.declared.Reading.{Reading}
 use Rattle.sitting_file.specs.declared.Reading.the-variants.{Accepted, Refused}
+use Rattle.printing.proofs.Settled.{printed-settles}
+use Rattle.answering.specs.Judgement.{sheetNumbers, judgement}
+use Rattle.answering.specs.Prints.{textOf, Prints}
 use Rattle.answering.specs.Sitting.{runOf}
 use Rattle.answering.specs.Answers.{StoreAfter, Answers}
 use Rattle.answering.specs.declared.SittingAnswer.{SittingAnswer}
@@ -34,3 +37,10 @@ module _ (file store other lent : List ℕ) (r q : SittingAnswer) (x y sheet she
 
       room : {s t l u : List ℕ} {z : SittingAnswer} {shape : Shape} → Answers file s l z t u → readOf file ≡ Accepted shape → meaning t ≡ runOf file shape .room
       room {s} {t} {l} {u} {z} {shape} p e = subst (λ (v : Reading). StoreAfter file v s t) e (p .numbers) .room
+
+module _ (file store other lent bytes : List ℕ) (r q : ℕ) (x y sheet sheet′ text text′ : List ℕ) where
+  -- THEOREM. Whatever the promise of the text allows has one count of bytes, one buffer and one sheet
+  pub prints-settled : Prints file store lent bytes r x sheet text → Prints file other lent bytes q y sheet′ text′ → (r ≡ q) × (text ≡ text′) × (sheet ≡ sheet′)
+  prints-settled a b =
+      let p = printed-settles (textOf (judgement file sheetNumbers)) bytes text text′ r q (a .printed) (b .printed) in
+      (p .0, p .1, a .answers .rows ∙ sym (b .answers .rows))

@@ -9,7 +9,6 @@ ghost use Rattle.store.specs.Meaning.{meaning};
 ghost use Rattle.feeding.specs.Run.{endingOf};
 ghost use Rattle.printing.specs.Putting.{Printed};
 ghost use Rattle.sitting_file.specs.Format.{readOf};
-ghost use Rattle.sitting_file.specs.Samples.{InLimits};
 ghost use Rattle.sitting_file.specs.declared.Reading.the-variants.{Accepted};
 ghost use Rattle.answering.specs.Judgement.{roomMade};
 ghost use Rattle.answering.specs.Sitting.{seated, fedBoth, runOf, Means, Feeds};
@@ -91,7 +90,7 @@ fn answer_accepted(file: &[u8], shape: Shape, store: &mut [u32], sheet: &mut [u3
 
 // Makes the store and opens its desk for the file's alphabet and depth.
 fn seat(store: &mut [u32], shape: Shape)
-    requires { ⌜ InLimits shape × (storeSize roomMade ≤ length (now store)) ⌝ }
+    requires { ⌜ storeSize roomMade ≤ length (now store) ⌝ }
     ensures { λ _. ⌜ Means (now (store .exit)) (seated shape) ⌝ }
 {
     store::make(store, ROOM);
@@ -107,7 +106,9 @@ fn feed_file(file: &[u8], shape: Shape, store: &mut [u32]) -> Ending
     let m = shape.second as usize;
     let from = file.len() - (n + m);
     let middle = from + n;
-    feed_both(store, &file[from..middle], &file[middle..])
+    let first = &file[from..middle];
+    let second = &file[middle..];
+    feed_both(store, first, second)
 }
 
 // Feeds two samples, one after the other, up to the first feed that is refused.

@@ -1,6 +1,5 @@
 -- `answering::answer_accepted` meets its contract: a refused feed's number, or the report's answer, is the judgement. Assumes nothing.
 use borrow.Author.Needs.{needs}
-use Rattle.sitting_file.proofs.AcceptedFile.{accepted-holds}
 use Rattle.answering.proofs.Judging.{feed-refused, report-told}
 use Rattle.answering.proofs.answer_accepted.Statement.{statement}
 use Rattle.answering.proofs.answer_accepted.Tie as tie
@@ -8,7 +7,7 @@ use Rattle.answering.proofs.answer_accepted.Tie as tie
 seat-requires : tie.Need-seat-requires
 seat-requires c κs =
     let s = c .before .before .before .before in
-    (accepted-holds (s .args .file .now) (s .args .shape) (s .pre .0) .limits, s .pre .1)
+    s .pre .1
 
 feed-file-requires : tie.Need-feed-file-requires
 feed-file-requires c κs = search needs

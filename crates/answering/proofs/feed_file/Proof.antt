@@ -27,23 +27,23 @@ sub-from c = enough (c .before .before .before .before)
 add-middle : tie.Need-add-middle
 add-middle c = search needs
 
-sub-feed-both : tie.Need-sub-feed-both
-sub-feed-both c = search needs
+sub-first : tie.Need-sub-first
+sub-first c = search needs
 
-part-feed-both-start : tie.Need-part-feed-both-start
-part-feed-both-start c = search needs
+part-first-start : tie.Need-part-first-start
+part-first-start c = search needs
 
-part-feed-both-end : tie.Need-part-feed-both-end
-part-feed-both-end c = omega (arith, enough (c .before .before .before .before .before))
+part-first-end : tie.Need-part-first-end
+part-first-end c = omega (arith, enough (c .before .before .before .before))
 
-sub-feed-both-2 : tie.Need-sub-feed-both-2
-sub-feed-both-2 c = omega (arith, enough (c .before .before .before .before .before .before))
+sub-second : tie.Need-sub-second
+sub-second c = omega (arith, enough (c .before .before .before .before .before))
 
-part-feed-both-start-2 : tie.Need-part-feed-both-start-2
-part-feed-both-start-2 c = omega (arith, enough (c .before .before .before .before .before .before))
+part-second-start : tie.Need-part-second-start
+part-second-start c = omega (arith, enough (c .before .before .before .before .before))
 
-part-feed-both-end-2 : tie.Need-part-feed-both-end-2
-part-feed-both-end-2 c = search needs
+part-second-end : tie.Need-part-second-end
+part-second-end c = search needs
 
 feed-both-requires : tie.Need-feed-both-requires
 feed-both-requires c κs = search needs
@@ -66,12 +66,12 @@ feed-file-spec =
     add-from
     sub-from
     add-middle
-    sub-feed-both
-    part-feed-both-start
-    part-feed-both-end
-    sub-feed-both-2
-    part-feed-both-start-2
-    part-feed-both-end-2
+    sub-first
+    part-first-start
+    part-first-end
+    sub-second
+    part-second-start
+    part-second-end
     feed-both-requires
     same-length
     returns)

@@ -17,7 +17,7 @@ returns : tie.Need-returns
 returns c =
     let o = c .before .before in
     let m = o .before .before .before .before in
-    seat-means _ _ _ _ _ _ (m .before .before .before .pre .1) (m .make .ensures) (o .«open» .ensures)
+    seat-means _ _ _ _ _ _ (m .before .before .before .pre) (m .make .ensures) (o .«open» .ensures)
 
 pub seat-spec : {M : Type 1} → statement M
 seat-spec = tie.close (tie.spec make-requires open-requires same-length returns)
