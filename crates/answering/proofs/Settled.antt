@@ -1,0 +1,46 @@
+-- The promise settles the answer, the sheet and what the store stands for, whatever numbers the store held before. Assumes nothing.
+use Prim.Native.Nat.{ℕ}
+use mathlib.Core.Path.{_≡_, sym, subst, _∙_}
+use mathlib.Core.List.{List}
+use Rattle.store.specs.Meaning.{meaning}
+use Rattle.sitting_file.specs.Format.{readOf}
+use Rattle.sitting_file.specs.declared.Shape.{Shape}
+use Rattle.sitting_file.specs.declared.Refusal.{Refusal}
+use Rattle.sitting_file.specs.declared.Reading.{Reading}
+use Rattle.sitting_file.specs.declared.Reading.the-variants.{Accepted, Refused}
+use Rattle.printing.proofs.Settled.{printed-settles}
+use Rattle.answering.specs.Judgement.{sheetNumbers, judgement}
+use Rattle.answering.specs.Prints.{textOf, Prints}
+use Rattle.answering.specs.Sitting.{runOf}
+use Rattle.answering.specs.Answers.{StoreAfter, Answers}
+use Rattle.answering.specs.declared.SittingAnswer.{SittingAnswer}
+
+-- two stores lent, with one sheet
+pub record SameAnswer (file store other : List ℕ) (r q : SittingAnswer) (x y sheet sheet′ : List ℕ) : Type 0 where
+  pub answer : r ≡ q
+  pub sheet-same : sheet ≡ sheet′
+  pub refused-stays : (why : Refusal) → readOf file ≡ Refused why → (x ≡ store) × (y ≡ other)
+  pub meaning-same : (shape : Shape) → readOf file ≡ Accepted shape → meaning x ≡ meaning y
+
+module _ (file store other lent : List ℕ) (r q : SittingAnswer) (x y sheet sheet′ : List ℕ) where
+  -- THEOREM. Whatever the promise allows has one answer and one sheet; the store stays, or stands for one room
+  pub answers-settled : Answers file store lent r x sheet → Answers file other lent q y sheet′ → SameAnswer file store other r q x y sheet sheet′
+  answers-settled a b = record {
+    answer = a .answer ∙ sym (b .answer);
+    sheet-same = a .rows ∙ sym (b .rows);
+    refused-stays = λ why e. (stays a e, stays b e);
+    meaning-same = λ shape e. room a e ∙ sym (room b e);
+  }
+    where
+      stays : {s t l u : List ℕ} {z : SittingAnswer} {why : Refusal} → Answers file s l z t u → readOf file ≡ Refused why → t ≡ s
+      stays {s} {t} p e = subst (λ (v : Reading). StoreAfter file v s t) e (p .numbers)
+
+      room : {s t l u : List ℕ} {z : SittingAnswer} {shape : Shape} → Answers file s l z t u → readOf file ≡ Accepted shape → meaning t ≡ runOf file shape .room
+      room {s} {t} {l} {u} {z} {shape} p e = subst (λ (v : Reading). StoreAfter file v s t) e (p .numbers) .room
+
+module _ (file store other lent bytes : List ℕ) (r q : ℕ) (x y sheet sheet′ text text′ : List ℕ) where
+  -- THEOREM. Whatever the promise of the text allows has one count of bytes, one buffer and one sheet
+  pub prints-settled : Prints file store lent bytes r x sheet text → Prints file other lent bytes q y sheet′ text′ → (r ≡ q) × (text ≡ text′) × (sheet ≡ sheet′)
+  prints-settled a b =
+      let p = printed-settles (textOf (judgement file sheetNumbers)) bytes text text′ r q (a .printed) (b .printed) in
+      (p .0, p .1, a .answers .rows ∙ sym (b .answers .rows))

@@ -1,0 +1,4 @@
+pub mod Judgement
+pub mod Sitting
+pub mod Answers
+pub mod Prints

@@ -1,0 +1,40 @@
+-- What the program prints (document 01, "Sitting file and program"), from the file alone. Assumes nothing.
+use Prim.Native.Nat.{ℕ}
+use mathlib.Core.List.{List, [], _∷_, _++_}
+use lib.ListN.{length}
+use Rattle.rows.specs.Rows.{Row, numbersOf}
+use Rattle.replay.specs.Table.{Outcome, refused, answered}
+use Rattle.printing.specs.Text.{headText, rowText, reportText, refusalText}
+use Rattle.printing.specs.Putting.{Printable, Printed}
+use Rattle.answering.specs.Judgement.{sheetNumbers, Judged, judgement}
+use Rattle.answering.specs.Answers.{answerOf, Answers}
+use Rattle.answering.specs.declared.SittingAnswer.{SittingAnswer}
+use Rattle.answering.specs.declared.SittingAnswer.the-variants.{Reported, Refused}
+
+-- "then a line for each row with kind, length, code and A counts"
+unfoldable pub linesText : ℕ → List Row → List ℕ
+linesText A [] = []
+linesText A (r ∷ rs) = rowText A (numbersOf r) ++ linesText A rs
+
+-- "a line with A, D, n, m, row count, doubled score; then a line for each row"; "A refusal prints `refused` and the number."
+unfoldable pub textOf : Outcome Judged → List ℕ
+textOf (refused n) = refusalText n
+textOf (answered x) =
+    headText (x .shape .alphabet) (x .shape .depth) (x .shape .first) (x .shape .second) (length (x .report .rows)) (x .report .score) ++ linesText (x .shape .alphabet) (x .report .rows)
+
+-- a file whose answer is put into the bytes lent: the text and nothing else, with the answer's sheet and store
+pub record Prints (file store sheet bytes : List ℕ) (r : ℕ) (store′ sheet′ bytes′ : List ℕ) : Type 0 where
+  pub printed : Printed (textOf (judgement file sheetNumbers)) bytes bytes′ r
+  pub answers : Answers file store sheet (answerOf (judgement file sheetNumbers)) store′ sheet′
+
+-- ---- an answer that is put
+
+-- its rows stand on the sheet
+abbrev pub CanPrint : SittingAnswer → List ℕ → Type 0
+CanPrint (Reported head) sheet = Printable (head .alphabet) (head .rows) sheet
+CanPrint (Refused n) sheet = Unit {0}
+
+-- its text, with the rows as they stand there
+abbrev pub textFrom : SittingAnswer → List ℕ → List ℕ
+textFrom (Reported head) sheet = reportText (head .alphabet) (head .depth) (head .first) (head .second) (head .rows) (head .score) sheet
+textFrom (Refused n) sheet = refusalText n

@@ -1,0 +1,28 @@
+"""The kept cases are what their text makes them, with every refusal that the program can print among them."""
+
+import unittest
+
+from reference.cases import CRATE, cases, file_of, printed
+
+
+class Cases(unittest.TestCase):
+    def test_text_of_a_file(self):
+        self.assertEqual(file_of("bytes", "02 ff*3".split()).hex(), "02ffffff")
+        self.assertEqual(file_of("sitting", "2 1 / 01*2 / 0 then 80".split()).hex(), "0201040100010001" "00" "80")
+        self.assertEqual(file_of("sitting", "2 1 / /".split()).hex(), "02010000")
+
+    def test_kept_files_come_from_their_text(self):
+        files = cases()
+        self.assertEqual({path.name: path.read_bytes() for path in (CRATE / "data").iterdir()}, files)
+        self.assertEqual((CRATE / "args").read_text().split(), list(files))
+        self.assertEqual((CRATE / "stdout").read_text(), printed(files))
+
+    def test_each_refusal_is_among_them(self):
+        for number in (10, 11, 13, 14, 15, 16):
+            self.assertIn(f"refused {number}\n", printed(cases()))
+
+    def test_names_say_the_refusal(self):
+        for name, file in cases().items():
+            number = name.split("-")[0]
+            if number in ("10", "11", "13", "14", "15", "16"):
+                self.assertEqual(printed({name: file}), f"{name}\nrefused {number}\n")
