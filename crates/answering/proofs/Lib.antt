@@ -7,3 +7,4 @@ pub mod Telling
 pub mod Seating
 pub mod Settled
 pub mod Texts
+pub mod Examples

@@ -85,7 +85,7 @@ demand-1 σ τ c o m =
 -- ---- demand 2
 
 -- the estimate of a sitting is a joint estimate ..
-joint-estimate : (x : Sitting) → 0 < x .symbols → JointEstimate x (report x)
+pub joint-estimate : (x : Sitting) → 0 < x .symbols → JointEstimate x (report x)
 joint-estimate x p = record {
   triple = estimateOf x;
   best = best-of x p;
@@ -108,7 +108,7 @@ one-estimate x q r p j k = ap₂ told rows (j .score-is ∙ ap (score (x .symbol
     rows : q .rows ≡ r .rows
     rows = j .rows ∙ ap (rowsOf x) same ∙ sym (k .rows)
 
-counts-by-place : (o : Opening) (w : Sample → List ℕ) (i : Sample) (s : List ℕ) (a : ℕ) → N (countedFrom o) (w i) s a ≡ N-placed (countedFrom o) (reverse (w i)) (reverse s) a
+pub counts-by-place : (o : Opening) (w : Sample → List ℕ) (i : Sample) (s : List ℕ) (a : ℕ) → N (countedFrom o) (w i) s a ≡ N-placed (countedFrom o) (reverse (w i)) (reverse s) a
 counts-by-place o w i s a = sym (rw (reverse-reverse (w i), reverse-reverse s) at (N-placed-is-N (countedFrom o) (reverse (w i)) (reverse s) a))
 
 -- two answers of reports are the same report

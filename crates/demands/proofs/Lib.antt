@@ -1,3 +1,4 @@
 pub mod Marked
 pub mod Contracts
 pub mod Demands
+pub mod Program
