@@ -8,3 +8,5 @@ pub mod Seating
 pub mod Settled
 pub mod Texts
 pub mod Examples
+pub mod Longer
+pub mod Exactly
