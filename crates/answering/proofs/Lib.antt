@@ -7,3 +7,6 @@ pub mod Telling
 pub mod Seating
 pub mod Settled
 pub mod Texts
+pub mod Examples
+pub mod Longer
+pub mod Exactly

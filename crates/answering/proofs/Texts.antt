@@ -40,12 +40,13 @@ rows-long [] f = refl
 rows-long (r ∷ rs) f = omega (arith, f .0 .counts, rows-long rs (f .1), length-append (numbersOf r) (rows.sheetOf rs))
 
 -- ---- a file that is reported on
-record Stands (file : List ℕ) (sheet : ℕ) (x : Judged) : Type 0 where
-  limits : InLimits (x .shape)
-  own : x .report ≡ report (sittingIn file (x .shape))
-  fits : length (x .report .rows) ≤ sheet / rowWidth
+pub record Stands (file : List ℕ) (sheet : ℕ) (x : Judged) : Type 0 where
+  pub accepted : readOf file ≡ reading.Accepted (x .shape)
+  pub limits : InLimits (x .shape)
+  pub own : x .report ≡ report (sittingIn file (x .shape))
+  pub fits : length (x .report .rows) ≤ sheet / rowWidth
 
-stands : (file : List ℕ) (sheet : ℕ) (x : Judged) → judgement file sheet ≡ answered x → Stands file sheet x
+pub stands : (file : List ℕ) (sheet : ℕ) (x : Judged) → judgement file sheet ≡ answered x → Stands file sheet x
 unfolding judged
 stands file sheet x e = go (readOf file) refl e
   where
@@ -54,7 +55,7 @@ stands file sheet x e = go (readOf file) refl e
     go (reading.Accepted shape) r e =
         let n = answers-none (linesOf file shape sheet) (record { shape = shape; report = report (sittingIn file shape) }) x e in
         let f = ltb-false (sheet / rowWidth) (0 + length (reportOf (sittingIn file shape))) (n .0 .1 .1 .0) in
-        subst (Stands file sheet) (n .1) (record { limits = accepted-holds file shape r .limits; own = refl; fits = omega arith })
+        subst (Stands file sheet) (n .1) (record { accepted = r; limits = accepted-holds file shape r .limits; own = refl; fits = omega arith })
 
 module _ (file store sheet store′ sheet′ : List ℕ) (r : SittingAnswer) (a : Answers file store sheet r store′ sheet′) where
   abbrev its : Outcome Judged

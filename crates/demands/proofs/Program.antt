@@ -1,35 +1,53 @@
--- The program's report is the joint estimate of the file's own two strings. Assumes nothing.
+-- The program's report is the joint estimate of the file's own samples. Assumes nothing.
 use Prim.Native.Nat.{ℕ}
 use native.Mathlib.Omega.{arith}
-use mathlib.Core.Path.{_≡_, refl, subst}
-use mathlib.Core.List.{List}
-use Rattle.replay.specs.Table.{answered}
-use Rattle.replay.proofs.Tables.{no-refusal, answers-none}
-use Rattle.rules.specs.Report.{report}
-use Rattle.sitting_file.specs.Format.{readOf}
+use mathlib.Core.Path.{_≡_, refl, sym, ap, subst, _∙_}
+use mathlib.Core.List.{List, reverse, reverse-reverse}
+use lib.ListN.{length}
+use Rattle.contexts.specs.Counts.{N-placed}
+use Rattle.contexts.specs.Sitting.{Sample, first, second}
+use Rattle.replay.specs.Table.{Outcome, refused, answered}
+use Rattle.rules.specs.Feed.{countedFrom}
+use Rattle.printing.specs.declared.Head.{Head}
+use Rattle.sitting_file.specs.Samples.{firstOf, secondOf}
 use Rattle.sitting_file.specs.declared.Shape.{Shape}
-use Rattle.sitting_file.specs.declared.Reading.{Reading}
-use Rattle.sitting_file.specs.declared.Reading.the-variants.{Accepted, Refused}
-use Rattle.sitting_file.proofs.AcceptedFile.{accepted-holds}
-use Rattle.answering.specs.Judgement.{openingOf, stringsIn, sittingIn, linesOf, Judged, judged}
-use Rattle.demands.specs.Demands.{OfItsFile, ProgramReports}
+use Rattle.answering.specs.Judgement.{openingOf, stringsIn, sittingIn, Judged, judgement}
+use Rattle.answering.specs.Answers as answers
+use Rattle.answering.specs.declared.SittingAnswer.the-variants as answer
+use Rattle.answering.proofs.Texts.{stands}
+use Rattle.demands.specs.Demands.{JointEstimate}
+use Rattle.demands.specs.Program.{sampleIn, OfItsFile, DemandOfProgram}
 use Rattle.demands.proofs.Estimate.{joint-estimate, counts-by-place}
 
-module _ (file : List ℕ) (sheet : ℕ) (x : Judged) where
-  -- what is reported of an accepted file
-  of-shape : (shape : Shape) → readOf file ≡ Accepted shape → _≡_ {A = Judged} (record { shape = shape; report = report (sittingIn file shape) }) x → OfItsFile file x
-  of-shape shape read same =
-      let low = accepted-holds file shape read .limits .alphabet-low in
-      subst (OfItsFile file) same (record {
-        accepted = read;
-        estimate = joint-estimate (sittingIn file shape) (omega arith);
-        true-counts = counts-by-place (openingOf shape) (stringsIn file shape);
-      })
+-- a string is its sample reversed
+back : (file : List ℕ) (shape : Shape) (i : Sample) → reverse (stringsIn file shape i) ≡ sampleIn file shape i
+unfolding stringsIn
+back file shape first = reverse-reverse (firstOf file shape)
+back file shape second = reverse-reverse (secondOf file shape)
 
-  of-reading : (r : Reading) → readOf file ≡ r → judged file sheet r ≡ answered x → OfItsFile file x
-  unfolding judged
-  of-reading (Refused why) read e = no-refusal e refl
-  of-reading (Accepted shape) read e = of-shape shape read (answers-none (linesOf file shape sheet) _ x e .1)
+same-head : {h k : Head} → answer.Reported h ≡ answer.Reported k → h ≡ k
+same-head e = cc
 
-pub program-reports : ProgramReports
-program-reports file sheet x e = of-reading file sheet x (readOf file) refl e
+never : {B : Type 0} {h : Head} {n : ℕ} → answer.Reported h ≡ answer.Refused n → B
+never e = let z : _≡_ {A = ℕ} 0 1 = cc in absurd (omega arith)
+
+pub demand-of-program : DemandOfProgram
+unfolding answers.answerOf answers.sheetOf
+demand-of-program file store sheet store′ sheet′ head a = go (judgement file (length sheet)) refl (a .answer) (a .rows)
+  where
+    go : (j : Outcome Judged) → judgement file (length sheet) ≡ j → answer.Reported head ≡ answers.answerOf j → sheet′ ≡ answers.sheetOf j sheet → OfItsFile file sheet head sheet′
+    go (refused n) e r s = never r
+    go (answered x) e r s =
+        let k = stands file (length sheet) x e in
+        let l = k .limits .alphabet-low in
+        record {
+          shape = x .shape;
+          accepted = k .accepted;
+          report = x .report;
+          estimate = subst (JointEstimate (sittingIn file (x .shape))) (sym (k .own)) (joint-estimate (sittingIn file (x .shape)) (omega arith));
+          head-is = same-head r;
+          rows-are = s;
+          true-counts = λ i t b.
+              counts-by-place (openingOf (x .shape)) (stringsIn file (x .shape)) i t b
+              ∙ ap (λ (w : List ℕ). N-placed (countedFrom (openingOf (x .shape))) w (reverse t) b) (back file (x .shape) i);
+        }

@@ -28,9 +28,6 @@ use Rattle.rules.specs.Feed.{countedFrom}
 use Rattle.rules.specs.Report.{Reported}
 use Rattle.rules.specs.Rules.{Answer, done, reporting, reported, rules}
 use Rattle.rules.specs.Strings.{stringsOf, sittingFor}
-use Rattle.sitting_file.specs.Format.{readOf}
-use Rattle.sitting_file.specs.declared.Reading.the-variants.{Accepted}
-use Rattle.answering.specs.Judgement.{openingOf, stringsIn, sittingIn, Judged, judgement}
 use Rattle.demands.specs.Runs.{OnSheet, Does, MadeNew, Run}
 
 -- ---- DEMAND 1: "refuses by number under the stated conditions and no others. A refused call changes neither the store nor the sheet."
@@ -129,14 +126,3 @@ abbrev pub Demand3 : Type 0
 Demand3 =
     (K : Making) (σ τ σ′ τ′ : List ℕ) (cs : List (Call rules)) (os os′ : List (Outcome Answer)) → MadeNew K σ → Run σ cs os τ
     → MadeNew K σ′ → Run σ′ (calls rules (serial rules (struck rules cs os))) os′ τ′ → Replayed cs os os′ τ τ′
-
--- ---- THE PROGRAM: what it reports of a sitting file (answering/specs/Prints has the text) is demand 2's of the file's own two strings
-
-pub record OfItsFile (file : List ℕ) (x : Judged) : Type 0 where
-  pub accepted : readOf file ≡ Accepted (x .shape)
-  pub estimate : JointEstimate (sittingIn file (x .shape)) (x .report)
-  pub true-counts : (i : Sample) (s : List ℕ) (a : ℕ)
-      → sittingIn file (x .shape) .count i s a ≡ N-placed (countedFrom (openingOf (x .shape))) (reverse (stringsIn file (x .shape) i)) (reverse s) a
-
-abbrev pub ProgramReports : Type 0
-ProgramReports = (file : List ℕ) (sheet : ℕ) (x : Judged) → judgement file sheet ≡ answered x → OfItsFile file x

@@ -1,3 +1,4 @@
 pub mod Marked
 pub mod Runs
 pub mod Demands
+pub mod Program

@@ -1,0 +1,37 @@
+-- The program refuses an accepted file by the number of the first line that applies, and by no other. Assumes nothing.
+use Prim.Native.Nat.{ℕ}
+use native.Mathlib.Omega.{arith}
+use mathlib.Core.Path.{_≡_, refl, sym, ap, _∙_}
+use mathlib.Core.Logic.{_↔_}
+use mathlib.Core.List.{List}
+use lib.ListN.{length}
+use Rattle.replay.specs.Table.{Outcome, refused, answered, verdictOf, First}
+use Rattle.replay.proofs.Tables.{refused-exactly}
+use Rattle.rules.specs.Report.{report}
+use Rattle.sitting_file.specs.Format.{readOf}
+use Rattle.sitting_file.specs.declared.Shape.{Shape}
+use Rattle.sitting_file.specs.declared.Reading.the-variants.{Accepted}
+use Rattle.answering.specs.Judgement.{sittingIn, linesOf, Judged, judged}
+use Rattle.answering.specs.Answers.{answerOf, Answers}
+use Rattle.answering.specs.declared.SittingAnswer.{SittingAnswer}
+use Rattle.answering.specs.declared.SittingAnswer.the-variants.{Reported, Refused}
+
+refusal-of : (j : Outcome Judged) (n : ℕ) → answerOf j ≡ Refused n → j ≡ refused n
+unfolding answerOf
+refusal-of (refused k) n e = let same : k ≡ n = cc in ap refused same
+refusal-of (answered x) n e = let z : _≡_ {A = ℕ} 0 1 = cc in absurd (omega arith)
+
+module _ (file store sheet store′ sheet′ : List ℕ) (r : SittingAnswer) (a : Answers file store sheet r store′ sheet′) (shape : Shape) (e : readOf file ≡ Accepted shape) where
+  abbrev mine : Judged
+  mine = record { shape = shape; report = report (sittingIn file shape) }
+
+  as-told : r ≡ answerOf (verdictOf (linesOf file shape (length sheet)) mine)
+  unfolding judged
+  as-told = a .answer ∙ ap answerOf (ap (judged file (length sheet)) e)
+
+  -- THEOREM. 10, 11 and 12 exactly when that is the first line that applies
+  pub refuses-exactly : (n : ℕ) → (r ≡ Refused n) ↔ First (linesOf file shape (length sheet)) n
+  unfolding answerOf
+  refuses-exactly n =
+      let t = refused-exactly (linesOf file shape (length sheet)) mine n in
+      (λ f. t .0 (refusal-of _ n (sym as-told ∙ f)), λ f. as-told ∙ ap answerOf (t .1 f))
