@@ -141,16 +141,14 @@ fn visit(
     let mut a: u32 = 0;
     while a < desk.symbols {
         let next = children.next;
-        if !held_at(numbers, n, next, key) {
+        if held_at(numbers, n, next, key) {
+            let left = here.left - 1;
+            let child = Context { key, span, left };
+            let w = visit(logs, numbers, kept, n, desk, costs, child, next);
+            children = and_child(children, w);
+        } else {
             children = and_child(children, as_leaf(costs, next));
-            key += span;
-            a += 1;
-            continue;
         }
-        let left = here.left - 1;
-        let child = Context { key, span, left };
-        let w = visit(logs, numbers, kept, n, desk, costs, child, next);
-        children = and_child(children, w);
         key += span;
         a += 1;
     }

@@ -1,6 +1,7 @@
 -- `weighing::visit` meets its contract, by recursion on the symbols left below the context. Assumes nothing.
-use mathlib.Core.Path.{_≡_, refl, sym, subst, _∙_}
-use mathlib.Core.Bool.{true}
+use mathlib.Core.Path.{_≡_, refl, sym, subst, subst₂, _∙_}
+use mathlib.Core.Logic.{⊎-elim}
+use mathlib.Core.Bool.{true, false}
 use mathlib.Core.List.{List}
 use Prim.Native.Nat.{ℕ, _+_, _-_, _/_, _^_, _<_}
 use native.Mathlib.Omega.{arith}
@@ -11,7 +12,7 @@ use Rattle.records.specs.Records.{records}
 use Rattle.records.specs.Held.{held}
 use Rattle.rows.specs.Walk.{older}
 use Rattle.weighing.specs.declared.Weighed.{Weighed}
-use Rattle.weighing.specs.Visit.{Ready, Visited, Fits}
+use Rattle.weighing.specs.Visit.{Ready, Visited, LeafOf, Fits}
 use Rattle.weighing.proofs.Visiting as visiting
 use Rattle.weighing.proofs.Steps as steps
 use Rattle.weighing.proofs.Turned as turned
@@ -54,10 +55,10 @@ visit-calls t = (
   leaf-mark-reads.Learnt,
   none-yet-reads.Asked,
   none-yet-reads.Learnt,
-  and-child-reads.Asked,
-  and-child-reads.Learnt,
   visit-below t,
   visit.Post,
+  and-child-reads.Asked,
+  and-child-reads.Learnt,
   split-mark-reads.Asked,
   split-mark-reads.Learnt,
   as-split-reads.Asked,
@@ -184,38 +185,24 @@ gives-fits t c g =
 next-fits : (t : ℕ) (c : Turn t) → turn t c .loop .key + start t c .args .here .span / 8 < 2 ^ 32
 next-fits t c = turning.child-fits (start t c .pre .1 .2) (deeper t c) (turn t c .loop .inv .1) (c .if3 .taken)
 
--- a child that is not held
+-- the child is visited ..
+visited : (t : ℕ) (c : Turn t) {new : List ℕ} {w : Weighed}
+    → let x = start t c .args in
+    let m = turn t c .loop in
+    Visited (x .desk) (x .n) (x .numbers .now) (contextOf (m .key)) (x .here .left - 1) (m .children .next) (m .kept) new w → Gave t c new w
+visited t c {new} {w} =
+    let x = start t c .args in
+    let m = turn t c .loop in
+    subst (λ (u : List ℕ). Visited (x .desk) (x .n) (x .numbers .now) u (x .here .left - 1) (m .children .next) (m .kept) new w) (child-is t c)
+
+-- .. or it is not held, and a leaf stands for it
+unseen : (t : ℕ) (c : visit-lts.After-held-at2 (visit-calls t) (visit-at t) visit.Post visit-Inv-loop visit-μ-loop) {w : Weighed}
+    → c .held-at2 .result ≡ false → LeafOf (start t (c .before) .args .costs) (turn t (c .before) .loop .children .next) w → Gave t (c .before) (turn t (c .before) .loop .kept) w
+unseen t c off = visiting.answer-absent (child-ready t (c .before)) (sym (c .held-at2 .ensures) ∙ off) (turn t (c .before) .loop .kept)
+
 visit-held-at-requires-2 : (t : ℕ) → visit-lts.Need-held-at-requires-2 (visit-calls t) (visit-at t) visit.Post visit-Inv-loop visit-μ-loop
 visit-held-at-requires-2 t c κs = visiting.stands (child-ready t c)
 
-visit-as-leaf-requires-3 : (t : ℕ) → visit-lts.Need-as-leaf-requires-3 (visit-calls t) (visit-at t) visit.Post visit-Inv-loop visit-μ-loop
-visit-as-leaf-requires-3 t c κs = visiting.bare-small (start t (c .before .before) .pre .1 .2)
-
-gave-absent : (t : ℕ) (c : visit-lts.After-as-leaf3 (visit-calls t) (visit-at t) visit.Post visit-Inv-loop visit-μ-loop)
-    → Gave t (c .before .before .before) (turn t (c .before .before .before) .loop .kept) (c .as-leaf3 .result)
-gave-absent t c =
-    let e = c .before .before .before in
-    visiting.answer-absent (child-ready t e) (sym (c .before .before .held-at2 .ensures) ∙ not-true _ (c .before .if4 .taken)) (turn t e .loop .kept) (c .as-leaf3 .ensures)
-
-visit-and-child-requires : (t : ℕ) → visit-lts.Need-and-child-requires (visit-calls t) (visit-at t) visit.Post visit-Inv-loop visit-μ-loop
-visit-and-child-requires t c κs = gives-fits t (c .before .before .before) (gave-absent t c)
-
-visit-add-key-2 : (t : ℕ) → visit-lts.Need-add-key-2 (visit-calls t) (visit-at t) visit.Post visit-Inv-loop visit-μ-loop
-visit-add-key-2 t c = record { fits = next-fits t (c .before .before .before .before) }
-
-visit-add-a : (t : ℕ) → visit-lts.Need-add-a (visit-calls t) (visit-at t) visit.Post visit-Inv-loop visit-μ-loop
-visit-add-a t c = omega (arith, c .before .before .before .before .if3 .taken)
-
-visit-loop-less : (t : ℕ) → visit-lts.Need-loop-less (visit-calls t) (visit-at t) visit.Post visit-Inv-loop visit-μ-loop
-visit-loop-less t c = omega (arith, c .before .before .before .before .if3 .taken)
-
-visit-loop-again : (t : ℕ) → visit-lts.Need-loop-again (visit-calls t) (visit-at t) visit.Post visit-Inv-loop visit-μ-loop
-visit-loop-again t c =
-    let e = c .before .before .before .before in
-    let m = turn t e .loop in
-    (m .inv .0, turning.turn-next (start t e .pre .1 .2) (deeper t e) (m .inv .1) (e .if3 .taken) (gave-absent t (c .before)) (c .and-child .ensures))
-
--- a child that is held
 visit-sub-left : (t : ℕ) → visit-lts.Need-sub-left (visit-calls t) (visit-at t) visit.Post visit-Inv-loop visit-μ-loop
 visit-sub-left t c = omega (arith, deeper t (c .before .before .before))
 
@@ -235,31 +222,36 @@ visit-visit-requires t c κs =
       ),
     )
 
-gave-held : (t : ℕ) (c : visit-lts.After-visit (visit-calls t) (visit-at t) visit.Post visit-Inv-loop visit-μ-loop) → Gave t (c .before .before .before .before .before) (c .visit .last .1 .1 .0) (c .visit .result)
-gave-held t c =
-    let e = c .before .before .before .before .before in
-    let x = start t e .args in
-    let m = turn t e .loop in
-    subst (λ (u : List ℕ). Visited (x .desk) (x .n) (x .numbers .now) u (x .here .left - 1) (m .children .next) (m .kept) (c .visit .last .1 .1 .0) (c .visit .result)) (child-is t e) (c .visit .ensures)
+visit-and-child-requires : (t : ℕ) → visit-lts.Need-and-child-requires (visit-calls t) (visit-at t) visit.Post visit-Inv-loop visit-μ-loop
+visit-and-child-requires t c κs = gives-fits t (c .before .before .before .before .before .before .before) (visited t (c .before .before .before .before .before .before .before) (c .before .before .visit .ensures))
+
+visit-as-leaf-requires-3 : (t : ℕ) → visit-lts.Need-as-leaf-requires-3 (visit-calls t) (visit-at t) visit.Post visit-Inv-loop visit-μ-loop
+visit-as-leaf-requires-3 t c κs = visiting.bare-small (start t (c .before .before) .pre .1 .2)
 
 visit-and-child-requires-2 : (t : ℕ) → visit-lts.Need-and-child-requires-2 (visit-calls t) (visit-at t) visit.Post visit-Inv-loop visit-μ-loop
-visit-and-child-requires-2 t c κs = gives-fits t (c .before .before .before .before .before .before .before) (gave-held t (c .before .before))
+visit-and-child-requires-2 t c κs = gives-fits t (c .before .before .before) (unseen t (c .before .before) (c .before .if4 .left) (c .as-leaf3 .ensures))
 
-visit-add-key-3 : (t : ℕ) → visit-lts.Need-add-key-3 (visit-calls t) (visit-at t) visit.Post visit-Inv-loop visit-μ-loop
-visit-add-key-3 t c = record { fits = next-fits t (c .before .before .before .before .before .before .before .before) }
+visit-add-key-2 : (t : ℕ) → visit-lts.Need-add-key-2 (visit-calls t) (visit-at t) visit.Post visit-Inv-loop visit-μ-loop
+visit-add-key-2 t c = record { fits = next-fits t (c .before .before) }
 
-visit-add-a-2 : (t : ℕ) → visit-lts.Need-add-a-2 (visit-calls t) (visit-at t) visit.Post visit-Inv-loop visit-μ-loop
-visit-add-a-2 t c = let e = c .before .before .before .before .before .before .before .before in omega (arith, e .if3 .taken, start t e .pre .1 .2 .weighable .few)
+visit-add-a : (t : ℕ) → visit-lts.Need-add-a (visit-calls t) (visit-at t) visit.Post visit-Inv-loop visit-μ-loop
+visit-add-a t c = let e = c .before .before in omega (arith, e .if3 .taken, start t e .pre .1 .2 .weighable .few)
 
-visit-loop-less-2 : (t : ℕ) → visit-lts.Need-loop-less-2 (visit-calls t) (visit-at t) visit.Post visit-Inv-loop visit-μ-loop
-visit-loop-less-2 t c = omega (arith, c .before .before .before .before .before .before .before .before .if3 .taken)
+visit-loop-less : (t : ℕ) → visit-lts.Need-loop-less (visit-calls t) (visit-at t) visit.Post visit-Inv-loop visit-μ-loop
+visit-loop-less t c = omega (arith, c .before .before .if3 .taken)
 
-visit-loop-again-2 : (t : ℕ) → visit-lts.Need-loop-again-2 (visit-calls t) (visit-at t) visit.Post visit-Inv-loop visit-μ-loop
-visit-loop-again-2 t c =
-    let e = c .before .before .before .before .before .before .before .before in
+visit-loop-again : (t : ℕ) → visit-lts.Need-loop-again (visit-calls t) (visit-at t) visit.Post visit-Inv-loop visit-μ-loop
+visit-loop-again t c =
+    let e = c .before .before in
+    let s = start t e in
+    let x = s .args in
     let m = turn t e .loop in
-    let w = c .before .before .before .visit in
-    (w .kept .1 .1 .0 ∙ m .inv .0, turning.turn-next (start t e .pre .1 .2) (deeper t e) (m .inv .1) (e .if3 .taken) (gave-held t (c .before .before .before)) (c .and-child2 .ensures))
+    let goes : List ℕ → Weighed → Type 0 = λ new children.
+    (length new ≡ length (x .kept .now)) × turning.Turn (x .desk) (x .n) (x .numbers .now) (contextOf (x .here .key)) (x .here .left - 1) (x .at) (x .here .span / 8) (m .a + 1) (m .key + x .here .span / 8) (x .kept .now) new children in
+    ⊎-elim
+    (λ v. subst₂ goes (sym (v .7)) (sym (v .8)) (v .3 .kept .1 .1 .0 ∙ m .inv .0, turning.turn-next (s .pre .1 .2) (deeper t e) (m .inv .1) (e .if3 .taken) (visited t e (v .3 .ensures)) (v .6 .ensures)))
+    (λ v. subst₂ goes (sym (v .3)) (sym (v .4)) (m .inv .0, turning.turn-next (s .pre .1 .2) (deeper t e) (m .inv .1) (e .if3 .taken) (unseen t (c .before) (v .0 .left) (v .1 .ensures)) (v .2 .ensures)))
+    (c .if4 .came)
 
 -- ---- after the last child
 
@@ -311,19 +303,15 @@ pub +visit-spec : {M : Type 1} → statement M
     (visit-none-yet-requires t)
     (visit-loop-holds t)
     (visit-held-at-requires-2 t)
-    (visit-as-leaf-requires-3 t)
+    (visit-sub-left t)
+    (visit-visit-requires t)
     (visit-and-child-requires t)
+    (visit-as-leaf-requires-3 t)
+    (visit-and-child-requires-2 t)
     (visit-add-key-2 t)
     (visit-add-a t)
     (visit-loop-less t)
     (visit-loop-again t)
-    (visit-sub-left t)
-    (visit-visit-requires t)
-    (visit-and-child-requires-2 t)
-    (visit-add-key-3 t)
-    (visit-add-a-2 t)
-    (visit-loop-less-2 t)
-    (visit-loop-again-2 t)
     (visit-split-mark-requires t)
     (visit-slice-write-kept-2 t)
     (visit-as-split-requires t)
