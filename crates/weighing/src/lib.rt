@@ -112,8 +112,8 @@ pub struct Weighed {
     pub next: usize,
 }
 
-// The trees at a context, whose place the walk has come to. A context that is not held is answered without a descent.
-// The decision at each record of its block is kept beside it.
+// The trees at a context, whose place the walk has come to. A context that is not held is answered without a descent,
+// a child that is not held without a call. The decision at each record of its block is kept beside it.
 fn visit(
     logs: &[u32],
     numbers: &[u32],

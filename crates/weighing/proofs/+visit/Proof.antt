@@ -44,26 +44,7 @@ visit-below t = and 3 visit-kinds.ps (falls 3 visit-kinds.ps _<_ μ-visit t) vis
 
 -- what the calls of `visit` ask and give
 abbrev visit-calls : ℕ → visit-lts.Claims
-visit-calls t = (
-  held-at-reads.Asked,
-  held-at-reads.Learnt,
-  as-leaf-reads.Asked,
-  as-leaf-reads.Learnt,
-  losses-at-reads.Asked,
-  losses-at-reads.Learnt,
-  leaf-mark-reads.Asked,
-  leaf-mark-reads.Learnt,
-  none-yet-reads.Asked,
-  none-yet-reads.Learnt,
-  visit-below t,
-  visit.Post,
-  and-child-reads.Asked,
-  and-child-reads.Learnt,
-  split-mark-reads.Asked,
-  split-mark-reads.Learnt,
-  as-split-reads.Asked,
-  as-split-reads.Learnt,
-)
+visit-calls t = (held-at-reads.Asked, held-at-reads.Learnt, as-leaf-reads.Asked, as-leaf-reads.Learnt, losses-at-reads.Asked, losses-at-reads.Learnt, leaf-mark-reads.Asked, leaf-mark-reads.Learnt, none-yet-reads.Asked, none-yet-reads.Learnt, visit-below t, visit.Post, and-child-reads.Asked, and-child-reads.Learnt, split-mark-reads.Asked, split-mark-reads.Learnt, as-split-reads.Asked, as-split-reads.Learnt)
 
 abbrev visit-Inv-loop : visit-lts.InvT-loop
 visit-Inv-loop logs numbers kept₀ n desk costs here at own span key₀ children₀ a₀ kept key children a =
