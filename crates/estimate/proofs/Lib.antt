@@ -10,4 +10,5 @@ pub mod JointTies
 pub mod Unique
 pub mod Spreads
 pub mod Tables
+pub mod Adding
 pub mod Agreeing

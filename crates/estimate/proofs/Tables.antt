@@ -7,8 +7,8 @@ use lib.ListN.{getD}
 use Rattle.numbers.specs.Limits.{mostSymbols}
 use Rattle.numbers.specs.Sum.{sum}
 use Rattle.numbers.proofs.Sums.{sum-add}
-use Rattle.contexts.specs.Sitting.{Sample, first, second, Sitting, eight, table, rowIn, countIn, sumOf}
-use Rattle.contexts.proofs.Tables.{eight-at, table-count}
+use Rattle.contexts.specs.Sitting.{Sample, first, second, Sitting, table, rowIn, sumOf}
+use Rattle.contexts.proofs.Tables.{table-count}
 use Rattle.estimate.specs.Trees.{Kind, shared, own}
 use Rattle.estimate.specs.Score.{ofKind, counts, sizeOf, cost}
 use Rattle.estimate.specs.Recursion.{spread, losses}
@@ -19,9 +19,6 @@ use Rattle.estimate.proofs.Spreads.{spread-cong, spread-past}
 -- the added counts add up to both samples' sums
 pub sum-shared : (t : List (List ℕ)) → sum mostSymbols (countsIn t shared) ≡ sumOf (rowIn t first) + sumOf (rowIn t second)
 sum-shared t = sum-add mostSymbols (λ a. getD (rowIn t first) a 0) (λ a. getD (rowIn t second) a 0)
-
-pub spread-eight : (c : ℕ → ℕ) → spread mostSymbols (λ a. getD (eight c) a 0) ≡ spread mostSymbols c
-spread-eight c = spread-cong mostSymbols (eight-at c)
 
 -- ---- of a sitting's table
 

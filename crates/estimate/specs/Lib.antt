@@ -3,3 +3,4 @@ pub mod Score
 pub mod Ties
 pub mod Recursion
 pub mod Table
+pub mod Adding

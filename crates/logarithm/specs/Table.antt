@@ -1,8 +1,10 @@
 -- The rule of the logarithm as a test that the checker computes over a whole table. Assumes nothing.
 use mathlib.Core.Bool.{Bool, true, _&&_}
 use mathlib.Core.List.{List, [], _∷_}
-use Prim.Native.Nat.{ℕ, zero, suc, _+_, _^_}
+use Prim.Native.Nat.{ℕ, zero, suc, _+_, _^_, _<_}
 use lib.Dec.{T, eqb, leb, ltb}
+use lib.ListN.{length}
+use Rattle.numbers.specs.Limits.{mostCounted}
 
 -- the test f passes at each entry of the list and its place, counted from i
 abbrev pub every : (ℕ → ℕ → Bool) → ℕ → List ℕ → Bool
@@ -21,3 +23,8 @@ isRight (suc n) k = between (suc n ^ 1024) k
 -- each entry is L of its place
 abbrev pub AllRight : List ℕ → Type 0
 AllRight xs = T (every isRight 0 xs)
+
+-- what is lent for reading logarithms: a table that is right, up to the largest number that is asked for
+pub record AreLogs (xs : List ℕ) : Type 0 where
+  pub reaches : mostCounted < length xs
+  pub right : AllRight xs

@@ -1,11 +1,10 @@
 // The logarithm of document 01: base 2, in 1,024ths, rounded down, as a table whose rule is proved over all of it.
-// `log_at` is the only door to it: nothing above knows that there is a table.
+// `logs` and `log_at` are the only doors to it: above, what the one gives is lent to the other, and nothing is known of it but `AreLogs`.
 ghost use mathlib.Core.Path.{_≡_};
-ghost use Prim.Native.Nat.{_≤_, _<_};
-ghost use lib.ListN.{length};
+ghost use Prim.Native.Nat.{_≤_};
 ghost use Rattle.numbers.specs.Limits.{mostCounted};
 ghost use Rattle.logarithm.specs.Logarithm.{L};
-ghost use Rattle.logarithm.specs.Table.{AllRight};
+ghost use Rattle.logarithm.specs.Table.{AreLogs};
 
 const TABLE: [u32; 1025] = [
     0,
@@ -1035,18 +1034,17 @@ const TABLE: [u32; 1025] = [
     10240,
 ];
 
-// L(n), for callers who keep n within the table.
-pub fn log_at(n: u32) -> u32
-    requires { ⌜ n ≤ mostCounted ⌝ }
-    ensures { λ r. ⌜ r ≡ L n ⌝ }
+// What `log_at` reads, for a caller to hold and to lend: the table is put there once, however often it is read.
+pub fn logs() -> [u32; 1025]
+    ensures { λ r. ⌜ AreLogs r ⌝ }
 {
-    entry_of(&TABLE, n)
+    TABLE
 }
 
-// An entry of a table that passes the test.
-fn entry_of(table: &[u32], n: u32) -> u32
-    requires { ⌜ (n < length (now table)) × AllRight (now table) ⌝ }
+// L(n), for callers who keep n within the table and lend what `logs` gave.
+pub fn log_at(logs: &[u32], n: u32) -> u32
+    requires { ⌜ AreLogs (now logs) × (n ≤ mostCounted) ⌝ }
     ensures { λ r. ⌜ r ≡ L n ⌝ }
 {
-    table[n as usize]
+    logs[n as usize]
 }

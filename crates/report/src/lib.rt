@@ -17,6 +17,7 @@ ghost use Prim.Native.Nat.{_+_, _/_, _^_, _≤_, _<_};
 ghost use lib.ListN.{length};
 ghost use lib.IntN.{pos, negℤ};
 ghost use Rattle.numbers.specs.Limits.{desks, mostRoom};
+ghost use Rattle.logarithm.specs.Table.{AreLogs};
 ghost use Rattle.store.specs.Layout.{headerSize};
 ghost use Rattle.store.specs.Meaning.{sittingAt};
 ghost use Rattle.calls.specs.Refusals.{reportOf};
@@ -57,18 +58,19 @@ pub fn report(store: &[u32], desk: u32, sheet: &mut [u32], place: u32) -> Report
     report_on(store, at, sheet, place)
 }
 
-// The report on an open desk both of whose samples have symbols.
+// The report on an open desk both of whose samples have symbols. What logarithms are read from is put here once, and lent to all below.
 fn report_on(store: &[u32], desk: Desk, sheet: &mut [u32], place: u32) -> ReportAnswer
     requires { ⌜ CanReportOn (now store) desk ⌝ }
     ensures { λ r. ⌜ Reports (now (store .entry)) (desk .number) place (reportOf r place (now (sheet .exit))) (now (sheet .entry)) (now (sheet .exit)) ⌝ }
 {
+    let logs = logarithm::logs();
     let mut kept = [0u8; MOST_ROOM];
-    let least = weighed(store, desk, &mut kept);
+    let least = weighed(&logs, store, desk, &mut kept);
     let whole = sheet.len() / ROW_WIDTH;
     if whole < place as usize + least.rows as usize {
         return ReportAnswer::Refused(Refusal::SheetShort);
     }
-    write(store, desk, &kept, sheet, place);
+    write(&logs, store, desk, &kept, sheet, place);
     ReportAnswer::Rows(least.rows as u32, score_of(least.joint))
 }
 
@@ -81,22 +83,29 @@ fn score_of(loss: u64) -> i64
 }
 
 // Weighs an open desk's records; the decisions are kept beside them.
-fn weighed(store: &[u32], desk: Desk, kept: &mut [u8]) -> Least
-    requires { ⌜ CanReportOn (now store) desk × (mostRoom ≤ length (now kept)) ⌝ }
+fn weighed(logs: &[u32], store: &[u32], desk: Desk, kept: &mut [u8]) -> Least
+    requires { ⌜ AreLogs (now logs) × CanReportOn (now store) desk × (mostRoom ≤ length (now kept)) ⌝ }
     ensures { λ r. ⌜ WeighedDesk (now (store .entry)) (desk .number) (now (kept .exit)) r ⌝ }
 {
     let used = store[USED] as usize;
-    weighing::weigh(&store[HEADER..], used, desk, kept)
+    weighing::weigh(logs, &store[HEADER..], used, desk, kept)
 }
 
 // Writes a weighed desk's rows from row `place` on.
-fn write(store: &[u32], desk: Desk, kept: &[u8], sheet: &mut [u32], place: u32)
-    requires { ⌜ CanReportOn (now store) desk × DecidedDesk (now store) (desk .number) (now kept) × (place + length (rows.reportOf (sittingAt (now store) (desk .number))) ≤ length (now sheet) / rowWidth) ⌝ }
+fn write(logs: &[u32], store: &[u32], desk: Desk, kept: &[u8], sheet: &mut [u32], place: u32)
+    requires { ⌜ AreLogs (now logs) × CanReportOn (now store) desk × DecidedDesk (now store) (desk .number) (now kept) × (place + length (rows.reportOf (sittingAt (now store) (desk .number))) ≤ length (now sheet) / rowWidth) ⌝ }
     ensures { λ _. ⌜ now (sheet .exit) ≡ withRows place (rows.reportOf (sittingAt (now (store .entry)) (desk .number))) (now (sheet .entry)) ⌝ }
 {
     let used = store[USED] as usize;
     let start = ROW_WIDTH * place as usize;
-    weighing::write_rows(&store[HEADER..], used, desk, kept, &mut sheet[start..]);
+    weighing::write_rows(
+        logs,
+        &store[HEADER..],
+        used,
+        desk,
+        kept,
+        &mut sheet[start..],
+    );
 }
 
 // A desk's numbers, as a weighing takes them.

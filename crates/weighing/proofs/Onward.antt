@@ -68,7 +68,7 @@ module _ (k : Desk) (costs : ByKind) (n : ℕ) (l kept : List ℕ) (top : ℕ) (
   }
 
   shorter : length s ≤ 5
-  shorter = omega (arith, deeper k costs n l s here _ ready more, q .weighable .shallow)
+  shorter = omega (arith, deeper ready more, q .weighable .shallow)
 
   power-small : c .power ≤ 8 ^ 5
   power-small = rw (q .power-is) (pow-le (length s) 5 shorter)
@@ -78,16 +78,16 @@ module _ (k : Desk) (costs : ByKind) (n : ℕ) (l kept : List ℕ) (top : ℕ) (
 
   module _ (w : Way) (from a key code : ℕ) (old cur : List ℕ) (past : ℕ) (t : Onward k n l s (c .left - 1) (c .span / 8) (c .power) w from a key code old cur past) where
     child-key : a < k .symbols → key ≡ keyOf (k .number) (older s a)
-    child-key lt = t .key-is ∙ rw (step-is k costs n l s here _ ready more) (sym (key-older (k .number) (after s) s (room k costs n l s here _ ready more) a))
+    child-key lt = t .key-is ∙ rw (step-is ready more) (sym (key-older (k .number) (after s) s (room ready more) a))
 
     pub onward-key : a < k .symbols → key + c .span / 8 < 2 ^ 32
-    onward-key lt = omega (arith, t .key-is, step-small k costs n l s here _ ready more a lt, key-small k costs n l s here _ ready more)
+    onward-key lt = omega (arith, t .key-is, step-small ready more a lt, key-small ready more)
 
     pub onward-code : a < k .symbols → code + c .power < 2 ^ 32
     onward-code lt = omega (arith, t .code-is, power-small, code-small, mul-le-mul-right {m = a} {n = 8} (c .power) (omega (arith, q .weighable .few)))
 
     pub onward-is : a < k .symbols → contextOf key ≡ older s a
-    onward-is lt = ap contextOf (child-key lt) ∙ contextOf-key (k .number) (older s a) (within k n l (q .weighable) (older s a) (child-context k costs n l s here _ ready more a lt))
+    onward-is lt = ap contextOf (child-key lt) ∙ contextOf-key (k .number) (older s a) (within k n l (q .weighable) (older s a) (child-context ready more a lt))
 
     -- what the writing at a child asks
     pub onward-can : a < k .symbols → from + length (sheetFor x (gather (k .symbols) (λ b. wanted (k .symbols) (c .left - 1) f w (older s b)))) ≤ top
@@ -98,9 +98,9 @@ module _ (k : Desk) (costs : ByKind) (n : ℕ) (l kept : List ℕ) (top : ℕ) (
           weighable = q .weighable;
           priced = q .priced;
           decided = q .decided;
-          context = child-context k costs n l s here _ ready more a lt;
+          context = child-context ready more a lt;
           key-is = child-key lt;
-          span-is = let e : 7 - length (older s a) ≡ suc (after s) = omega (arith, room k costs n l s here _ ready more) in step-is k costs n l s here _ ready more ∙ rw e;
+          span-is = let e : 7 - length (older s a) ≡ suc (after s) = omega (arith, room ready more) in step-is ready more ∙ rw e;
           left-is = let z = more in omega (arith, q .left-is);
           code-is = t .code-is ∙ rw (q .power-is) (sym (code-older s a));
           power-is = let e : length (older s a) ≡ suc (length s) = omega arith in rw e (omega (arith, q .power-is, pow-suc 8 (length s)));
@@ -135,7 +135,7 @@ module _ (k : Desk) (costs : ByKind) (n : ℕ) (l kept : List ℕ) (top : ℕ) (
   }
 
   pub key-fits : c .key + 1 < 2 ^ 32
-  key-fits = omega (arith, key-small k costs n l s here _ ready more, q .key-is)
+  key-fits = omega (arith, key-small ready more, q .key-is)
 
   pub power-fits : 8 * c .power < 2 ^ 32
   power-fits = omega (arith, power-small)

@@ -27,7 +27,7 @@ pow-le (suc a) (suc b) h = omega (arith, pow-le a b (omega arith), pow-suc 8 a, 
 pub after : List ℕ → ℕ
 after s = 5 - length s
 
-module _ (k : Desk) (costs : ByKind) (n : ℕ) (l : List ℕ) (s : List ℕ) (c : Context) (p : ℕ) (q : Ready k costs n l s c p) (more : c .left ≡ 0 → ⊥) where
+module _ {k : Desk} {costs : ByKind} {n : ℕ} {l s : List ℕ} {c : Context} {p : ℕ} (q : Ready k costs n l s c p) (more : c .left ≡ 0 → ⊥) where
   pub deeper : length s < k .depth
   deeper = let z = more in omega (arith, q .left-is)
 

@@ -31,26 +31,26 @@ use Rattle.weighing.proofs.Marks.{written-mark, written-apart, apart-no
 use Rattle.weighing.proofs.Visiting.{past-own, there, mark-there}
 use Rattle.weighing.proofs.Turning.{Turn, turn-small}
 
-module _ (k : Desk) (costs : ByKind) (n : ℕ) (l : List ℕ) (s : List ℕ) (c : Context) (p : ℕ) (q : Ready k costs n l s c p) (more : c .left ≡ 0 → ⊥) where
+module _ {k : Desk} {costs : ByKind} {n : ℕ} {l s : List ℕ} {c : Context} {p : ℕ} (q : Ready k costs n l s c p) (more : c .left ≡ 0 → ⊥) where
   abbrev f : Losses
   f = losses (sittingIn k (records n l))
 
-  module _ (on : held (c .key) (records n l) ≡ true) (old : List ℕ) where
-    pub turns-begin : (children : Weighed) → ((i : Kind) → at (children .least) i ≡ 0) → ((i : Kind) → at (children .rows) i ≡ 0) → children .next ≡ p + 1
+  module _ (on : held (c .key) (records n l) ≡ true) {old : List ℕ} where
+    pub turns-begin : {children : Weighed} → ((i : Kind) → at (children .least) i ≡ 0) → ((i : Kind) → at (children .rows) i ≡ 0) → children .next ≡ p + 1
         → Turn k n l s (c .left - 1) p (c .span / 8) 0 (c .key + 1) old old children
     unfolding sum
-    turns-begin children z y e = record {
+    turns-begin {children} z y e = record {
       few = omega arith;
       child-is = omega (arith, q .key-is);
       least = z;
       rows = y;
       onward = omega arith;
-      place = e ∙ past-own k costs n l s c p q on;
+      place = e ∙ past-own q on;
       marked = record { is = λ x lo hi. absurd (omega arith) };
       apart = apart-none (p + 1) (children .next) old;
     }
 
-    module _ (cur : List ℕ) (a child : ℕ) (children : Weighed) (t : Turn k n l s (c .left - 1) p (c .span / 8) a child old cur children) (done : k .symbols ≤ a) where
+    module _ {cur : List ℕ} {a child : ℕ} {children : Weighed} (t : Turn k n l s (c .left - 1) p (c .span / 8) a child old cur children) (done : k .symbols ≤ a) where
       all : a ≡ k .symbols
       all = omega (arith, t .few)
 
@@ -71,13 +71,13 @@ module _ (k : Desk) (costs : ByKind) (n : ℕ) (l : List ℕ) (s : List ℕ) (c 
 
       last : (m : ℕ) → a ≡ m → rank (turnKey (k .number) s m) (keys (records n l)) ≡ rank (endOf (k .number) s) (keys (records n l))
       last zero e = absurd (omega (arith, all, q .weighable .some))
-      last (suc b) e = turns-past k n l (q .weighable) s (q .context) (steps.after s) (steps.room k costs n l s c p q more) (steps.deeper k costs n l s c p q more) b (omega (arith, all))
+      last (suc b) e = turns-past k n l (q .weighable) s (q .context) (steps.after s) (steps.room q more) (steps.deeper q more) b (omega (arith, all))
 
-      pub turns-end : (o : ByKind) → ((i : Kind) → at o i ≡ f i s) → (v : ℕ)
+      pub turns-end : {o : ByKind} → ((i : Kind) → at o i ≡ f i s) → {v : ℕ}
           → v ≡ choice (o .shared) (min (o .first) (children .least .first) + min (o .second) (children .least .second)) (children .least .shared)
           + 3 * one (not (leb (o .first) (children .least .first))) + 6 * one (not (leb (o .second) (children .least .second)))
-          → n ≤ length cur → (r : Weighed) → SplitOf o children r → Visited k n l s (c .left) p old (set cur p v) r
-      turns-end o is v e long r g = subst (λ (d : ℕ). Visited k n l s d p old (set cur p v) r) back (record {
+          → n ≤ length cur → {r : Weighed} → SplitOf o children r → Visited k n l s (c .left) p old (set cur p v) r
+      turns-end {o} is {v} e long {r} g = subst (λ (d : ℕ). Visited k n l s d p old (set cur p v) r) back (record {
         least = choosing.split-least (k .symbols) f s o is (c .left - 1) children less some r g;
         rows = choosing.split-members (k .symbols) f s o is (c .left - 1) children less some r g;
         past = g .onward ∙ t .place ∙ last a refl;
@@ -86,7 +86,7 @@ module _ (k : Desk) (costs : ByKind) (n : ℕ) (l : List ℕ) (s : List ℕ) (c 
       })
         where
           here : (p < n) × (getD l (width * p) 0 ≡ keyOf (k .number) s)
-          here = there k costs n l s c p q on
+          here = there q on
 
           mark : v ≡ markOf (k .symbols) (k .depth) f (getD l (width * p) 0)
-          mark = mark-there k costs n l s c p q on (suc (c .left - 1)) v (omega (arith, back, q .left-is)) (e ∙ choosing.split-mark (k .symbols) f s o is (c .left - 1) children less some)
+          mark = mark-there q on (suc (c .left - 1)) v (omega (arith, back, q .left-is)) (e ∙ choosing.split-mark (k .symbols) f s o is (c .left - 1) children less some)

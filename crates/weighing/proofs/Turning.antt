@@ -58,34 +58,34 @@ fits-by x y h = record { shared = h shared; first = h (own first); second = h (o
 pub turn-small : (a m x y : ℕ) {g : ℕ → ℕ} → a ≤ mostSymbols → x ≡ sum a g → ((b : ℕ) → g b ≤ m) → y ≤ m → x + y ≤ 9 * m
 turn-small a m x y few e h y-le = omega (arith, sum-mono a {g = λ b. m} (λ b l. h b), sum-same a m, mul-le-mul-right m few)
 
-module _ (k : Desk) (costs : ByKind) (n : ℕ) (l : List ℕ) (s : List ℕ) (c : Context) (p : ℕ) (q : Ready k costs n l s c p) (more : c .left ≡ 0 → ⊥) where
+module _ {k : Desk} {costs : ByKind} {n : ℕ} {l s : List ℕ} {c : Context} {p : ℕ} (q : Ready k costs n l s c p) (more : c .left ≡ 0 → ⊥) where
   abbrev f : Losses
   f = losses (sittingIn k (records n l))
 
-  module _ (old cur : List ℕ) (a child : ℕ) (children : Weighed) (t : Turn k n l s (c .left - 1) p (c .span / 8) a child old cur children) where
+  module _ {old cur : List ℕ} {a child : ℕ} {children : Weighed} (t : Turn k n l s (c .left - 1) p (c .span / 8) a child old cur children) where
     child-key : a < k .symbols → child ≡ keyOf (k .number) (older s a)
-    child-key lt = t .child-is ∙ rw (steps.step-is k costs n l s c p q more) (sym (key-older (k .number) (steps.after s) s (steps.room k costs n l s c p q more) a))
+    child-key lt = t .child-is ∙ rw (steps.step-is q more) (sym (key-older (k .number) (steps.after s) s (steps.room q more) a))
 
     -- what a child's visit asks
     pub turn-ready : a < k .symbols → Ready k costs n l (older s a) (record { key = child; span = c .span / 8; left = c .left - 1 }) (children .next)
     turn-ready lt = record {
       weighable = q .weighable;
       priced = q .priced;
-      context = steps.child-context k costs n l s c p q more a lt;
+      context = steps.child-context q more a lt;
       key-is = child-key lt;
-      span-is = let e : 7 - length (older s a) ≡ suc (steps.after s) = omega (arith, length-append s (a ∷ []), steps.room k costs n l s c p q more) in steps.step-is k costs n l s c p q more ∙ rw e;
+      span-is = let e : 7 - length (older s a) ≡ suc (steps.after s) = omega (arith, length-append s (a ∷ []), steps.room q more) in steps.step-is q more ∙ rw e;
       left-is = let z = more in omega (arith, length-append s (a ∷ []), q .left-is);
-      place = t .place ∙ turn-at k n l (q .weighable) s (q .context) (steps.after s) (steps.room k costs n l s c p q more) (steps.deeper k costs n l s c p q more) a lt;
+      place = t .place ∙ turn-at k n l (q .weighable) s (q .context) (steps.after s) (steps.room q more) (steps.deeper q more) a lt;
     }
 
     pub child-is : a < k .symbols → contextOf child ≡ older s a
-    child-is lt = ap contextOf (child-key lt) ∙ contextOf-key (k .number) (older s a) (within k n l (q .weighable) (older s a) (steps.child-context k costs n l s c p q more a lt))
+    child-is lt = ap contextOf (child-key lt) ∙ contextOf-key (k .number) (older s a) (within k n l (q .weighable) (older s a) (steps.child-context q more a lt))
 
     pub child-fits : a < k .symbols → child + c .span / 8 < 2 ^ 32
-    child-fits lt = omega (arith, t .child-is, steps.step-small k costs n l s c p q more a lt, steps.key-small k costs n l s c p q more)
+    child-fits lt = omega (arith, t .child-is, steps.step-small q more a lt, steps.key-small q more)
 
     -- what it gives fits, and brings the next turn
-    module _ (lt : a < k .symbols) (new : List ℕ) (w : Weighed) (g : Visited k n l (older s a) (c .left - 1) (children .next) cur new w) where
+    module _ (lt : a < k .symbols) {new : List ℕ} {w : Weighed} (g : Visited k n l (older s a) (c .left - 1) (children .next) cur new w) where
       pub least-fits : Fits (children .least) (w .least)
       least-fits = fits-by (children .least) (w .least) (λ i.
           let h = turn-small a mostLoss (at (children .least) i) (at (w .least) i) (omega (arith, q .weighable .few)) (t .least i) (small i) (rw (g .least i) (small i a)) in
@@ -102,8 +102,8 @@ module _ (k : Desk) (costs : ByKind) (n : ℕ) (l : List ℕ) (s : List ℕ) (c 
           few : (i : Kind) (b : ℕ) → length (membersAt (k .symbols) (c .left - 1) f i (older s b)) ≤ 2 * 8 ^ (c .left - 1)
           few i b = members-few (k .symbols) f (q .weighable .few) (c .left - 1) i (older s b)
 
-      pub turn-next : (children′ : Weighed) → ChildOf children w children′ → Turn k n l s (c .left - 1) p (c .span / 8) (a + 1) (child + c .span / 8) old new children′
-      turn-next children′ e = record {
+      pub turn-next : {children′ : Weighed} → ChildOf children w children′ → Turn k n l s (c .left - 1) p (c .span / 8) (a + 1) (child + c .span / 8) old new children′
+      turn-next {children′} e = record {
         few = omega arith;
         child-is = omega (arith, t .child-is);
         least = λ i. sum-of _ _ _ (e .least) i ∙ ap₂ _+_ (t .least i) (g .least i) ∙ sym (sum-next a _);
@@ -117,6 +117,6 @@ module _ (k : Desk) (costs : ByKind) (n : ℕ) (l : List ℕ) (s : List ℕ) (c 
           -- a visit does not go back
           further : children .next ≤ w .next
           further =
-              let o = within k n l (q .weighable) (older s a) (steps.child-context k costs n l s c p q more a lt) in
-              rw (g .past, t .place ∙ turn-at k n l (q .weighable) s (q .context) (steps.after s) (steps.room k costs n l s c p q more) (steps.deeper k costs n l s c p q more) a lt)
+              let o = within k n l (q .weighable) (older s a) (steps.child-context q more a lt) in
+              rw (g .past, t .place ∙ turn-at k n l (q .weighable) s (q .context) (steps.after s) (steps.room q more) (steps.deeper q more) a lt)
               (rank-mono (keyOf (k .number) (older s a)) (endOf (k .number) (older s a)) (keys (records n l)) (omega (arith, block-key (k .number) (older s a) (older s a) o o (begins-self (older s a)))))

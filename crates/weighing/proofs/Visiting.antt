@@ -27,7 +27,7 @@ use Rattle.weighing.specs.declared.Context.{Context}
 use Rattle.weighing.specs.declared.Weighed.{Weighed}
 use Rattle.weighing.specs.Sitting.{sittingIn}
 use Rattle.weighing.specs.Trees.{markAt, markOf}
-use Rattle.weighing.specs.Visit.{Ready, Visited, Countable, Small, LeafOf}
+use Rattle.weighing.specs.Visit.{Stands, Ready, Visited, Countable, Small, LeafOf}
 use Rattle.weighing.proofs.Cursor.{rank-own, within, past-absent, past-deepest}
 use Rattle.weighing.proofs.Counts.{table-here, table-small, costs-small, losses-here, small-here, absent-flat, absent-losses}
 use Rattle.weighing.proofs.Choosing as choosing
@@ -49,20 +49,24 @@ held-there key n p l up at h = go (order p n)
     go (same e) = absurd (lost (λ lt _. omega arith))
     go (more e) = absurd (lost (λ lt _. omega arith))
 
-module _ (k : Desk) (costs : ByKind) (n : ℕ) (l : List ℕ) (s : List ℕ) (c : Context) (p : ℕ) (q : Ready k costs n l s c p) where
+module _ {k : Desk} {costs : ByKind} {n : ℕ} {l s : List ℕ} {c : Context} {p : ℕ} (q : Ready k costs n l s c p) where
   abbrev f : Losses
   f = losses (sittingIn k (records n l))
 
   abbrev ks : List ℕ
   ks = keys (records n l)
 
+  -- the walk has come to its place
+  pub stands : Stands n l p (c .key)
+  stands = record { standing = q .weighable .standing; place = rw (q .key-is) (q .place) }
+
   -- the decision at s is that of its key
   mark-here : (d : ℕ) → length s + d ≡ k .depth → markOf (k .symbols) (k .depth) f (keyOf (k .number) s) ≡ markAt (k .symbols) d f s
   mark-here d h = let e : k .depth - length s ≡ d = omega arith in rw (contextOf-key (k .number) s (within k n l (q .weighable) s (q .context)), e)
 
   -- ---- a context that is not held
-  pub answer-absent : held (c .key) (records n l) ≡ false → (old : List ℕ) (r : Weighed) → LeafOf costs p r → Visited k n l s (c .left) p old old r
-  answer-absent absent old r g = record {
+  pub answer-absent : held (c .key) (records n l) ≡ false → (old : List ℕ) {r : Weighed} → LeafOf costs p r → Visited k n l s (c .left) p old old r
+  answer-absent absent old {r} g = record {
     least = choosing.absent-least (k .symbols) f s costs bare p r g (q .weighable .some) unseen (c .left);
     rows = choosing.absent-members (k .symbols) f s costs bare p r g (q .weighable .some) unseen (c .left);
     past = g .onward ∙ q .place ∙ past-absent k n l (q .weighable) s (q .context) off;
@@ -106,11 +110,11 @@ module _ (k : Desk) (costs : ByKind) (n : ℕ) (l : List ℕ) (s : List ℕ) (c 
           second-cost = small (own second);
         }
 
-    pub own-losses : (o : ByKind) → LossesOf (tableOf (recordAt p l)) costs o → (t : Kind) → at o t ≡ f t s
-    own-losses o g = losses-here k n l (q .weighable) costs (q .priced) s o (subst (λ (z : List (List ℕ)). LossesOf z costs o) table-is g)
+    pub own-losses : {o : ByKind} → LossesOf (tableOf (recordAt p l)) costs o → (t : Kind) → at o t ≡ f t s
+    own-losses {o} g = losses-here k n l (q .weighable) costs (q .priced) s o (subst (λ (z : List (List ℕ)). LossesOf z costs o) table-is g)
 
-    pub own-small : (o : ByKind) → LossesOf (tableOf (recordAt p l)) costs o → Small o
-    own-small o g = small-here k n l (q .weighable) costs (q .priced) s o (own-losses o g)
+    pub own-small : {o : ByKind} → LossesOf (tableOf (recordAt p l)) costs o → Small o
+    own-small {o} g = small-here k n l (q .weighable) costs (q .priced) s o (own-losses g)
 
     pub past-own : p + 1 ≡ rank (keyOf (k .number) s + 1) ks
     past-own = ap (λ (z : ℕ). z + 1) (q .place) ∙ sym (rank-own (keyOf (k .number) s) 0 (records n l) (q .weighable .standing .rising) on)
@@ -119,9 +123,9 @@ module _ (k : Desk) (costs : ByKind) (n : ℕ) (l : List ℕ) (s : List ℕ) (c 
     mark-there d v h e = e ∙ sym (mark-here d h) ∙ ap (markOf (k .symbols) (k .depth) f) (sym (there .1))
 
     -- with no symbol left
-    pub answer-leaf : (o : ByKind) → ((t : Kind) → at o t ≡ f t s) → c .left ≡ 0 → (old : List ℕ) → n ≤ length old → (v : ℕ) → v ≡ one (not (leb (o .shared) (o .first + o .second)))
-        → (r : Weighed) → LeafOf o (p + 1) r → Visited k n l s (c .left) p old (set old p v) r
-    answer-leaf o is z old long v e r g = subst (λ (d : ℕ). Visited k n l s d p old (set old p v) r) (sym z) (record {
+    pub answer-leaf : {o : ByKind} → ((t : Kind) → at o t ≡ f t s) → c .left ≡ 0 → (old : List ℕ) → n ≤ length old → {v : ℕ} → v ≡ one (not (leb (o .shared) (o .first + o .second)))
+        → {r : Weighed} → LeafOf o (p + 1) r → Visited k n l s (c .left) p old (set old p v) r
+    answer-leaf {o} is z old long {v} e {r} g = subst (λ (d : ℕ). Visited k n l s d p old (set old p v) r) (sym z) (record {
       least = choosing.leaf-least (k .symbols) f s o is (p + 1) r g;
       rows = choosing.leaf-members (k .symbols) f s o is (p + 1) r g;
       past = g .onward ∙ past-own ∙ past-deepest k n l (q .weighable) s (q .context) (omega (arith, q .left-is));

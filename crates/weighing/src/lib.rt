@@ -1,5 +1,5 @@
 // The weighing of a desk's records: what its trees lose at least, how many rows its report has, the decisions, kept beside the records,
-// and the rows written by them.
+// and the rows written by them. `logs` is what `logarithm::logs` gave, lent by the caller and only handed on to `estimate`.
 use estimate::ByKind;
 ghost use mathlib.Core.Path.{_≡_};
 ghost use mathlib.Core.Bool.{cond, not, _&&_};
@@ -9,6 +9,7 @@ ghost use lib.Dec.{leb};
 ghost use Rattle.numbers.specs.Sum.{one};
 ghost use Rattle.contexts.specs.Keys.{contextOf};
 ghost use Rattle.records.specs.Records.{records};
+ghost use Rattle.logarithm.specs.Table.{AreLogs};
 ghost use Rattle.estimate.specs.Table.{LossesOf};
 ghost use Rattle.records.specs.Held.{held, recordAt, tableOf, Standing};
 ghost use Rattle.weighing.specs.Trees.{choice};
@@ -41,11 +42,11 @@ pub struct Least {
 }
 
 // Weighs the trees of a desk over the first `n` records, and keeps the decision at each of its contexts beside the record.
-pub fn weigh(numbers: &[u32], n: usize, desk: Desk, kept: &mut [u8]) -> Least
-    requires { ⌜ CanWeigh desk n (now numbers) (now kept) ⌝ }
+pub fn weigh(logs: &[u32], numbers: &[u32], n: usize, desk: Desk, kept: &mut [u8]) -> Least
+    requires { ⌜ AreLogs (now logs) × CanWeigh desk n (now numbers) (now kept) ⌝ }
     ensures { λ r. ⌜ Weighs desk n (now (numbers .entry)) (now (kept .exit)) r ⌝ }
 {
-    let costs = estimate::costs_of(desk.symbols, desk.n, desk.m);
+    let costs = estimate::costs_of(logs, desk.symbols, desk.n, desk.m);
     let key = desk.number * DESK_SPAN;
     let root = Context {
         key,
@@ -53,7 +54,7 @@ pub fn weigh(numbers: &[u32], n: usize, desk: Desk, kept: &mut [u8]) -> Least
         left: desk.depth,
     };
     let at = records::place_of(numbers, n, key);
-    let w = visit(numbers, kept, n, desk, costs, root, at);
+    let w = visit(logs, numbers, kept, n, desk, costs, root, at);
     let least = w.least;
     let rows = w.rows;
     Least {
@@ -65,11 +66,18 @@ pub fn weigh(numbers: &[u32], n: usize, desk: Desk, kept: &mut [u8]) -> Least
 }
 
 // Writes the rows of a desk's report at the beginning of the sheet, by the decisions that `weigh` kept beside the records.
-pub fn write_rows(numbers: &[u32], n: usize, desk: Desk, kept: &[u8], sheet: &mut [u32])
-    requires { ⌜ CanReport desk n (now numbers) (now kept) (now sheet) ⌝ }
+pub fn write_rows(
+    logs: &[u32],
+    numbers: &[u32],
+    n: usize,
+    desk: Desk,
+    kept: &[u8],
+    sheet: &mut [u32],
+)
+    requires { ⌜ AreLogs (now logs) × CanReport desk n (now numbers) (now kept) (now sheet) ⌝ }
     ensures { λ _. ⌜ Reports desk n (now (numbers .entry)) (now (sheet .entry)) (now (sheet .exit)) ⌝ }
 {
-    let costs = estimate::costs_of(desk.symbols, desk.n, desk.m);
+    let costs = estimate::costs_of(logs, desk.symbols, desk.n, desk.m);
     let way = Way {
         joint: true,
         first: false,
@@ -104,9 +112,10 @@ pub struct Weighed {
     pub next: usize,
 }
 
-// The trees at a context, whose place the walk has come to. A context that is not held is answered without a descent.
-// The decision at each record of its block is kept beside it.
+// The trees at a context, whose place the walk has come to. A context that is not held is answered without a descent,
+// a child that is not held without a call. The decision at each record of its block is kept beside it.
 fn visit(
+    logs: &[u32],
     numbers: &[u32],
     kept: &mut [u8],
     n: usize,
@@ -115,13 +124,13 @@ fn visit(
     here: Context,
     at: usize,
 ) -> Weighed
-    requires { ⌜ (n ≤ length (now kept)) × Ready desk costs n (now numbers) (contextOf (here .key)) here at ⌝ }
+    requires { ⌜ AreLogs (now logs) × (n ≤ length (now kept)) × Ready desk costs n (now numbers) (contextOf (here .key)) here at ⌝ }
     ensures { λ r. ⌜ Visited desk n (now (numbers .entry)) (contextOf (here .key)) (here .left) at (now (kept .entry)) (now (kept .exit)) r ⌝ }
 {
     if !held_at(numbers, n, at, here.key) {
         return as_leaf(costs, at);
     }
-    let own = losses_at(numbers, at, costs);
+    let own = losses_at(logs, numbers, at, costs);
     if here.left == 0 {
         kept[at] = leaf_mark(own);
         return as_leaf(own, at + 1);
@@ -132,10 +141,14 @@ fn visit(
     let mut a: u32 = 0;
     while a < desk.symbols {
         let next = children.next;
-        let left = here.left - 1;
-        let child = Context { key, span, left };
-        let w = visit(numbers, kept, n, desk, costs, child, next);
-        children = and_child(children, w);
+        if held_at(numbers, n, next, key) {
+            let left = here.left - 1;
+            let child = Context { key, span, left };
+            let w = visit(logs, numbers, kept, n, desk, costs, child, next);
+            children = and_child(children, w);
+        } else {
+            children = and_child(children, as_leaf(costs, next));
+        }
         key += span;
         a += 1;
     }
@@ -155,11 +168,11 @@ fn held_at(numbers: &[u32], n: usize, at: usize, key: u32) -> bool
 }
 
 // The losses of the context of the record at a place.
-fn losses_at(numbers: &[u32], at: usize, costs: ByKind) -> ByKind
-    requires { ⌜ Countable (now numbers) at costs ⌝ }
+fn losses_at(logs: &[u32], numbers: &[u32], at: usize, costs: ByKind) -> ByKind
+    requires { ⌜ AreLogs (now logs) × Countable (now numbers) at costs ⌝ }
     ensures { λ r. ⌜ LossesOf (tableOf (recordAt at (now (numbers .entry)))) costs r ⌝ }
 {
-    estimate::losses_of(records::counts_at(numbers, at), costs)
+    estimate::losses_of(logs, records::counts_at(numbers, at), costs)
 }
 
 // The context is a leaf with these losses.

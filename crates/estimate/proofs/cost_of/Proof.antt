@@ -24,9 +24,9 @@ wide-requires-2 c κs = search needs
 
 mul-result : tie.Need-mul-result
 mul-result c =
-    let s = c .before .before .before in
+    let s = c .before .before .before .before in
     let h : c .before .before .wide .result ≤ mostSymbols = omega arith in
-    let l : c .wide2 .result ≤ topLog = omega (arith, L-top (s .args .n) (s .pre .2), c .before .log-at .ensures) in
+    let l : c .wide2 .result ≤ topLog = omega (arith, L-top (s .args .n) (s .pre .3), c .before .log-at .ensures) in
     record { fits = lt-of-le-of-lt (mul-le-mul h l) (lit< tt) }
 
 returns : tie.Need-returns

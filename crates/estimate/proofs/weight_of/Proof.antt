@@ -1,7 +1,6 @@
 -- `estimate::weight_of` meets its contract. Assumes nothing.
 use Prim.Native.Nat.{ℕ, _*_, _≤_}
 use native.Mathlib.Nat.{lt-of-le-of-lt, le-of-eq, le-trans}
-use native.Mathlib.Omega.{arith}
 use mathlib.Core.Path.{_≡_, ap₂, _∙_}
 use borrow.Author.Needs.{needs}
 use lib.Dec.{lit<}
@@ -10,9 +9,6 @@ use Rattle.logarithm.specs.Logarithm.{L}
 use Rattle.logarithm.proofs.Laws.{weight-top}
 use Rattle.estimate.proofs.weight_of.Statement.{statement}
 use Rattle.estimate.proofs.weight_of.Tie as tie
-
-returns : tie.Need-returns
-returns c = let e : c .before .args .c ≡ 0 = c .if1 .taken in (rw e (omega arith), omega arith)
 
 wide-requires : tie.Need-wide-requires
 wide-requires c κs = search needs
@@ -30,12 +26,12 @@ product x l n e f h = let p = ap₂ (λ (a b : ℕ). a * b) e f in (p, le-trans 
 mul-result : tie.Need-mul-result
 mul-result c =
     let s = c .before .before .before .before in
-    record { fits = lt-of-le-of-lt (product _ _ (s .args .c) (c .before .before .wide .ensures .0) (c .wide2 .ensures .0 ∙ c .before .log-at .ensures) (s .pre) .1) (lit< tt) }
+    record { fits = lt-of-le-of-lt (product _ _ (s .args .c) (c .before .before .wide .ensures .0) (c .wide2 .ensures .0 ∙ c .before .log-at .ensures) (s .pre .1) .1) (lit< tt) }
 
-returns-2 : tie.Need-returns-2
-returns-2 c =
+returns : tie.Need-returns
+returns c =
     let s = c .before .before .before .before in
-    product _ _ (s .args .c) (c .before .before .wide .ensures .0) (c .wide2 .ensures .0 ∙ c .before .log-at .ensures) (s .pre)
+    product _ _ (s .args .c) (c .before .before .wide .ensures .0) (c .wide2 .ensures .0 ∙ c .before .log-at .ensures) (s .pre .1)
 
 pub weight-of-spec : {M : Type 1} → statement M
-weight-of-spec = tie.close (tie.spec returns wide-requires log-at-requires wide-requires-2 mul-result returns-2)
+weight-of-spec = tie.close (tie.spec wide-requires log-at-requires wide-requires-2 mul-result returns)

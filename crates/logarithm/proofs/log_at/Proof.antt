@@ -1,18 +1,23 @@
--- `logarithm::log_at` meets its contract: `tt` is the one test, which the checker computes over the whole table. Assumes nothing.
+-- `logarithm::log_at` meets its contract: the table's test is carried to the place asked for. Assumes nothing.
 use Prim.Native.Nat.{_<_}
 use native.Mathlib.Omega.{arith}
 use borrow.Author.Needs.{needs}
+use lib.ListN.{length}
+use Rattle.logarithm.proofs.Entries.{entry}
 use Rattle.logarithm.proofs.log_at.Statement.{statement}
 use Rattle.logarithm.proofs.log_at.Tie as tie
 
-slice-aggregate-entry-of : tie.Need-slice-aggregate-entry-of
-slice-aggregate-entry-of c = search needs
+mul-result : tie.Need-mul-result
+mul-result c = search needs
 
-entry-of-requires : tie.Need-entry-of-requires
-entry-of-requires c κs = let h : c .before .args .n < 1025 = omega (arith, c .before .pre) in (h, tt)
+shared-slice-read-result : tie.Need-shared-slice-read-result
+shared-slice-read-result c = search needs
 
 returns : tie.Need-returns
-returns c = search needs
+returns c =
+    let s = c .before in
+    let h : s .args .n < length (s .args .logs .now) = omega (arith, s .pre .0 .reaches, s .pre .1) in
+    entry (s .args .logs .now) (s .pre .0 .right) (s .args .n) h
 
 pub log-at-spec : {M : Type 1} → statement M
-log-at-spec = tie.close (tie.spec slice-aggregate-entry-of entry-of-requires returns)
+log-at-spec = tie.close (tie.spec mul-result shared-slice-read-result returns)

@@ -8,8 +8,9 @@ counts-at-requires c κs = search needs
 
 losses-of-requires : tie.Need-losses-of-requires
 losses-of-requires c κs =
-    let p = c .before .before .pre in
-    (rw (c .counts-at .ensures) (p .counted), p .shared-cost, p .first-cost, p .second-cost)
+    let s = c .before .before .before in
+    let p = s .pre .1 in
+    (s .pre .0, rw (c .counts-at .ensures) (p .counted), p .shared-cost, p .first-cost, p .second-cost)
 
 returns : tie.Need-returns
 returns c = rw (c .before .counts-at .ensures) at (c .losses-of .ensures)

@@ -21,12 +21,13 @@ place-of-requires c κs = search needs
 
 visit-requires : tie.Need-visit-requires
 visit-requires c κs =
-    let s = c .before .before .before .before .before .before in
+    let s = c .before .before .before .before .before .before .before in
     let x = s .args in
     let p = c .before .place-of in
     let costs = c .before .before .before .costs-of in
-    let w = s .pre .weighable in (
-      s .pre .beside,
+    let w = s .pre .1 .weighable in (
+      s .pre .0,
+      s .pre .1 .beside,
       subst
           (λ (u : List ℕ). Ready (x .desk) (costs .result) (x .n) (x .numbers .now) u (record { key = x .desk .number * deskSpan; span = deskSpan; left = x .desk .depth }) (p .result))
           (sym (whole.root-is (x .desk) (x .n) (x .numbers .now) w))
@@ -39,13 +40,13 @@ same-length c = search needs
 returns : tie.Need-returns
 returns c =
     let v = c .before .before .before .before in
-    let s = v .before .before .before .before .before .before .before in
+    let s = v .before .before .before .before .before .before .before .before in
     let x = s .args in
     let p = v .before .before .place-of in
-    let w = s .pre .weighable in
-    whole.weighed (x .desk) (x .n) (x .numbers .now) w (p .result) (p .ensures .at) (x .kept .now) (v .visit .last .1 .0) (omega (arith, v .visit .kept .1 .0, s .pre .beside)) (v .visit .result)
+    let w = s .pre .1 .weighable in
+    whole.weighed (x .desk) (x .n) (x .numbers .now) w (p .result) (p .ensures .at) (x .kept .now) (v .visit .last .1 .1 .0) (omega (arith, v .visit .kept .1 .1 .0, s .pre .1 .beside)) (v .visit .result)
     (subst
-    (λ (u : List ℕ). Visited (x .desk) (x .n) (x .numbers .now) u (x .desk .depth) (p .result) (x .kept .now) (v .visit .last .1 .0) (v .visit .result))
+    (λ (u : List ℕ). Visited (x .desk) (x .n) (x .numbers .now) u (x .desk .depth) (p .result) (x .kept .now) (v .visit .last .1 .1 .0) (v .visit .result))
     (whole.root-is (x .desk) (x .n) (x .numbers .now) w)
     (v .visit .ensures))
 

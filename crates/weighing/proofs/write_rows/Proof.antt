@@ -17,14 +17,14 @@ mul-key c = search needs
 
 write-from-requires : tie.Need-write-from-requires
 write-from-requires c κs =
-    let s = c .before .before .before .before .before .before in
+    let s = c .before .before .before .before .before .before .before in
     let x = s .args in
     let costs = c .before .before .costs-of in
-    let w = s .pre .weighable in
+    let w = s .pre .1 .weighable in
     subst
     (λ (u : List ℕ). CanWrite (x .desk) (costs .result) (x .n) (x .numbers .now) (x .kept .now) (length (x .sheet .now)) u (whole.rootSpot (x .desk) (x .n) (x .numbers .now) w) 0)
     (sym (whole.root-is (x .desk) (x .n) (x .numbers .now) w))
-    (whole.root-can (x .desk) (x .n) (x .numbers .now) w (x .kept .now) (x .sheet .now) (s .pre) (costs .result) (costs .ensures))
+    (whole.root-can (x .desk) (x .n) (x .numbers .now) w (x .kept .now) (x .sheet .now) (s .pre .1) (costs .result) (costs .ensures))
 
 same-length : tie.Need-same-length
 same-length c = search needs
@@ -32,9 +32,9 @@ same-length c = search needs
 returns : tie.Need-returns
 returns c =
     let v = c .before .before in
-    let s = v .before .before .before .before .before .before .before in
+    let s = v .before .before .before .before .before .before .before .before in
     let x = s .args in
-    let w = s .pre .weighable in
+    let w = s .pre .1 .weighable in
     let g = v .write-from in
     whole.reported (x .desk) (x .n) (x .numbers .now) w (x .sheet .now) (g .last .1 .1 .1 .1 .1 .0) (g .result)
     (subst
