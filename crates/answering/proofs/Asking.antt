@@ -1,5 +1,5 @@
 -- The report asked for at the desk that sat the file is the one of the file's own sitting, and so are the answer and the sheet. Assumes nothing.
-use Prim.Native.Nat.{ℕ, zero, suc, _+_, _*_, _/_}
+use Prim.Native.Nat.{ℕ, _+_, _*_, _/_}
 use native.Mathlib.Omega.{arith}
 use mathlib.Core.Path.{_≡_, refl, sym, ap, ap₂, _∙_}
 use mathlib.Core.Bool.{Bool, true, false, cond, _||_}
@@ -8,7 +8,8 @@ use lib.ListN.{length, drop, length-reverse}
 use lib.Dec.{eqb, ltb}
 use lib.IntN.{ℤ}
 use Rattle.contexts.specs.Sitting.{first, second, Progress}
-use Rattle.rows.specs.Rows.{rowWidth, readRows}
+use Rattle.rows.specs.Rows.{rowWidth}
+use Rattle.rows.proofs.Written.{rows-read}
 use Rattle.replay.specs.Room.{Room}
 use Rattle.replay.specs.Table.{Line, _when_, number, applies, Outcome, refused, answered, verdictOf}
 use Rattle.replay.specs.Machine.{asking, atDesk, verdict, tableOf, tableAt, askingTable, ownLines, answerOf, answerAt}
@@ -68,12 +69,6 @@ module _ (file : List ℕ) (shape : Shape) (h : Holds file shape) (sheet : ℕ) 
       rw (s .at-desk) (ap₂ as-told (sizes p (shape .first) (shape .second) n m) own)
 
 -- ---- what the report's promise makes of it
-
--- as many rows are read as are asked for
-rows-read : (n : ℕ) (l : List ℕ) → n ≡ length (readRows n l)
-unfolding readRows
-rows-read zero l = refl
-rows-read (suc n) l = ap suc (rows-read n (drop rowWidth l))
 
 reported-same : {x y : Reported} → _≡_ {A = Outcome Answer} (answered (reported x)) (answered (reported y)) → x ≡ y
 reported-same e = cc

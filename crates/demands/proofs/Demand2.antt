@@ -8,11 +8,12 @@ use Rattle.contexts.specs.Sitting.{Sample, first, Progress, sat}
 use Rattle.estimate.specs.Trees.{own}
 use Rattle.replay.specs.Room.{Making, Opening, Desk, closed, opened}
 use Rattle.replay.specs.Table.{Outcome, answered}
-use Rattle.replay.specs.Machine.{opening, asking, Call, atDesk, answerAt, verdict}
+use Rattle.replay.specs.Machine.{asking, Call, atDesk, answerAt, verdict}
 use Rattle.replay.specs.Real.{Made, Runs}
-use Rattle.replay.specs.Alone.{Alone, begins, goes-on, asks}
+use Rattle.replay.specs.Alone.{asks}
 use Rattle.replay.specs.Serial.{Told, struck, sittings}
 use Rattle.replay.proofs.Swap.{heard}
+use Rattle.replay.proofs.Reached.{alone-begun}
 use Rattle.replay.proofs.RealRuns.{runs-sound, real-open}
 use Rattle.store.specs.Meaning.{meaning}
 use Rattle.rules.specs.Report.{Reported, report}
@@ -26,15 +27,6 @@ use Rattle.demands.specs.Runs.{Does, MadeNew, Run, stop, then}
 use Rattle.demands.specs.Demands.{JointEstimate, OfItsStrings, Demand2}
 use Rattle.demands.proofs.Contracts.{Sound, contracts, answers, newly-made, runs}
 use Rattle.demands.proofs.Estimate.{joint-estimate, counts-by-place}
-
--- a sitting's first act is its opening
-begun : {ts : List (Told rules)} {o : Opening} {p : Progress} → Alone rules ts (opened o p)
-    → (later : List (Told rules)) × (ts ≡ record { act = opening o; answer = done } ∷ later)
-begun (begins o) = ([], refl)
-begun (goes-on {o = o} {s = p} al q n) =
-    let last : List (Told rules) = record { act = asking q; answer = rules .answer o p q } ∷ [] in
-    let h = begun al in
-    (h .0 ++ last, ap (λ (ts : List (Told rules)). ts ++ last) (h .1))
 
 -- a run that goes on with a call: the run before it, and the call
 record UpTo (σ : List ℕ) (cs : List (Call rules)) (os : List (Outcome Answer)) (c : Call rules) (o : Outcome Answer) : Type 0 where
@@ -88,7 +80,7 @@ next-report K σ τ υ cs os made run d sheet place r does = go (meaning τ .at 
         let w : Sample → List ℕ = stringsOf (asks rules (alone .sitting .told)) in
         let stands : StandsFor o w p = stands-alone (alone .alone) in
         let fits = meaning-fits τ sound .sittings d o p e .alphabet-fewest in
-        let start = begun (alone .alone) in
+        let start = alone-begun rules (alone .alone) in
         let is : report (sat (o .symbols) (o .depth) p) ≡ r =
         same-report _ r (ap (λ (D : Desk Progress). answerAt rules D (asking (reporting sheet place))) (sym e) ∙ h .1) in
         record {

@@ -37,6 +37,15 @@ module _ (R : Rules) where
       ap (λ s. R .next o s q) (alone-reached a)
       ∙ sym (ap (foldl (R .next o) (R .fresh o)) (asks-append ts _) ∙ foldl-append (R .next o) (R .fresh o) (asks R ts) (q ∷ []))
 
+  -- an open sitting began with its opening
+  pub alone-begun : {ts : List (Told R)} {o : Opening} {s : R .State} → Alone R ts (opened o s)
+      → (later : List (Told R)) × (ts ≡ record { act = opening o; answer = R .done } ∷ later)
+  alone-begun (begins o) = ([], refl)
+  alone-begun (goes-on {o = o} {s = s} a q h) =
+      let last : List (Told R) = record { act = asking q; answer = R .answer o s q } ∷ [] in
+      let b = alone-begun a in
+      (b .0 ++ last, ap (λ (ts : List (Told R)). ts ++ last) (b .1))
+
   open-stands : (gs : List (Course R)) (d : ℕ) (o : Opening) (s : R .State) (g : Option (Course R)) → latest R d gs ≡ g → Stands R (opened o s) g → OpenAlone R gs d o s
   open-stands gs d o s none l h = let z : _≡_ {A = ℕ} 0 1 = cc in absurd (omega arith)
   open-stands gs d o s (some g) l h = record { sitting = g; there = l; alone = h; state = alone-reached h }

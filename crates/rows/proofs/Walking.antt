@@ -1,96 +1,20 @@
 -- The walk from the root, by strings, gives the members of the estimate; below an unseen string it does not go. Assumes nothing.
-use Prim.Native.Nat.{ℕ, zero, suc, _+_, min, _≤_, _<_}
-use native.Mathlib.Nat.{le-refl, le-suc, le-trans}
-use native.Mathlib.Omega.{arith}
+use Prim.Native.Nat.{ℕ, zero, suc, _+_, min, _<_}
 use mathlib.Core.Path.{_≡_, refl, sym, ap, ap₂, fun-ext, _∙_}
 use mathlib.Core.Bool.{Bool, true, false, cond, not, _&&_, and-true, and-assoc}
-use mathlib.Core.List.{List, [], _∷_, _++_, map, append-nil, append-assoc, map-append}
+use mathlib.Core.List.{List, [], _∷_, _++_, map}
 use lib.Dec.{leb, ltb, lt→ltb}
 use Rattle.numbers.specs.Sum.{sum}
 use Rattle.numbers.proofs.Tests.{choose, choose₂, and-yes}
-use Rattle.numbers.proofs.Sums.{sum-cong}
 use Rattle.contexts.specs.Strings.{under}
 use Rattle.contexts.specs.Sitting.{Sample, first, second}
 use Rattle.estimate.specs.Trees.{Kind, shared, own, Triple, root, sharedLeaf, separateTrees, below, from}
-use Rattle.estimate.specs.Recursion.{Losses, best, joint, split, splitBoth, tree, estimate}
+use Rattle.estimate.specs.Recursion.{Losses, best, split, splitBoth, tree, estimate}
 use Rattle.estimate.proofs.Unseen.{Flat, unseen}
-use Rattle.rows.specs.Members.{Member, member, push, gather, onlyIf, here, members}
-use Rattle.rows.specs.Walk.{older, bestAt, separateAt, jointAt, leafAt, owns, walk}
-
--- ---- the values by strings
-
-from-child : (f : Losses) (s : List ℕ) (a : ℕ) → below a (from s f) ≡ from (older s a) f
-from-child f s a = fun-ext (λ k. fun-ext (λ u. ap (f k) (sym (append-assoc s (a ∷ []) u))))
-
-from-here : (f : Losses) (s : List ℕ) (k : Kind) → from s f k [] ≡ f k s
-from-here f s k = ap (f k) (append-nil s)
-
-pub bestAt-zero : (A : ℕ) (f : Losses) (i : Sample) (s : List ℕ) → bestAt A zero f i s ≡ f (own i) s
-unfolding best
-bestAt-zero A f i s = from-here f s (own i)
-
-children-best : (A d : ℕ) (f : Losses) (i : Sample) (s : List ℕ) → sum A (λ a. best A d (under a (from s f (own i)))) ≡ sum A (λ a. bestAt A d f i (older s a))
-children-best A d f i s = sum-cong A (λ a l. ap (λ (g : Losses). best A d (g (own i))) (from-child f s a))
-
-children-joint : (A d : ℕ) (f : Losses) (s : List ℕ) → sum A (λ a. joint A d (below a (from s f))) ≡ sum A (λ a. jointAt A d f (older s a))
-children-joint A d f s = sum-cong A (λ a l. ap (joint A d) (from-child f s a))
-
-pub bestAt-suc : (A d : ℕ) (f : Losses) (i : Sample) (s : List ℕ) → bestAt A (suc d) f i s ≡ min (f (own i) s) (sum A (λ a. bestAt A d f i (older s a)))
-unfolding best
-bestAt-suc A d f i s = ap₂ min (from-here f s (own i)) (children-best A d f i s)
-
-pub jointAt-zero : (A : ℕ) (f : Losses) (s : List ℕ) → jointAt A zero f s ≡ min (f shared s) (separateAt A zero f s)
-unfolding joint
-jointAt-zero A f s = ap (λ (n : ℕ). min n (separateAt A zero f s)) (from-here f s shared)
-
-pub jointAt-suc : (A d : ℕ) (f : Losses) (s : List ℕ)
-    → jointAt A (suc d) f s ≡ min (f shared s) (min (separateAt A (suc d) f s) (sum A (λ a. jointAt A d f (older s a))))
-unfolding joint
-jointAt-suc A d f s = ap₂ min (from-here f s shared) (ap (min (separateAt A (suc d) f s)) (children-joint A d f s))
-
--- ---- the members by strings
-
--- a member seen from s, as a member
-abbrev pub prefix : List ℕ → Member → Member
-prefix s r = member (r .kind) (s ++ r .context)
-
-gather-cong : (n : ℕ) {g h : ℕ → List Member} → ((a : ℕ) → a < n → g a ≡ h a) → gather n g ≡ gather n h
-unfolding gather
-gather-cong zero e = refl
-gather-cong (suc n) e = ap₂ _++_ (gather-cong n (λ a l. e a (le-trans l (le-suc n)))) (e n (le-refl (suc n)))
-
-gather-none : (n : ℕ) → gather n (λ a. []) ≡ []
-unfolding gather
-gather-none zero = refl
-gather-none (suc n) = rw (gather-none n)
-
-map-gather : (h : Member → Member) (n : ℕ) (g : ℕ → List Member) → map h (gather n g) ≡ gather n (λ a. map h (g a))
-unfolding gather
-map-gather h zero g = refl
-map-gather h (suc n) g = map-append h (gather n g) (g n) ∙ ap (λ (l : List Member). l ++ map h (g n)) (map-gather h n g)
-
-prefix-push : (s : List ℕ) (a : ℕ) (rs : List Member) → map (prefix s) (map (push a) rs) ≡ map (prefix (older s a)) rs
-prefix-push s a [] = refl
-prefix-push s a (r ∷ rs) = ap₂ {C = List Member} _∷_ (ap (member (r .kind)) (sym (append-assoc s (a ∷ []) (r .context)))) (prefix-push s a rs)
-
-prefix-only : (s : List ℕ) (b : Bool) (k : Kind) (rest : List Member) → map (prefix s) (onlyIf b (member k []) rest) ≡ onlyIf b (member k s) (map (prefix s) rest)
-prefix-only s true k rest = ap (λ (u : List ℕ). member k u ∷ map (prefix s) rest) (append-nil s)
-prefix-only s false k rest = refl
-
--- what a triple has at the root, and at the children
-atRoot : List ℕ → Bool → Bool → Bool → List Member
-atRoot s b m n = onlyIf b (member shared s) (onlyIf m (member (own first) s) (onlyIf n (member (own second) s) []))
-
-prefix-here : (s : List ℕ) (t : Triple) → map (prefix s) (here t) ≡ atRoot s (t shared []) (t (own first) []) (t (own second) [])
-unfolding atRoot
-prefix-here s t = simp prefix-only
-
-members-suc : (A d : ℕ) (t : Triple) (s : List ℕ)
-    → map (prefix s) (members A (suc d) t) ≡ atRoot s (t shared []) (t (own first) []) (t (own second) []) ++ gather A (λ a. map (prefix (older s a)) (members A d (below a t)))
-unfolding members
-members-suc A d t s =
-    map-append (prefix s) (here t) _
-    ∙ ap₂ _++_ (prefix-here s t) (map-gather (prefix s) A _ ∙ gather-cong A (λ a l. prefix-push s a (members A d (below a t))))
+use Rattle.rows.specs.Members.{Member, member, gather, members}
+use Rattle.rows.specs.Walk.{older, separateAt, jointAt, leafAt, owns, walk}
+use Rattle.rows.proofs.Values.{from-child, from-here, children-best, children-joint}
+use Rattle.rows.proofs.Prefixes.{prefix, gather-cong, atRoot, prefix-here, members-suc, members-top}
 
 -- ---- the own trees
 
@@ -151,19 +75,6 @@ owns-members A (suc d) f s m n =
 
 -- ---- the estimate
 
-members-empty : (A d : ℕ) → members A d (λ k s. false) ≡ []
-unfolding members
-members-empty A zero = refl
-members-empty A (suc d) = gather-cong A (λ a l. ap (map (push a)) (members-empty A d)) ∙ gather-none A
-
--- where a triple holds the empty string alone
-pub members-top : (A d : ℕ) (t : Triple) → ((k : Kind) (a : ℕ) (u : List ℕ) → t k (a ∷ u) ≡ false) → members A d t ≡ here t
-unfolding members
-members-top A zero t e = refl
-members-top A (suc d) t e =
-    ap (here t ++_) (gather-cong A (λ a l. ap (λ (u : Triple). map (push a) (members A d u)) (fun-ext (λ k. fun-ext (e k a))) ∙ ap (map (push a)) (members-empty A d)) ∙ gather-none A)
-    ∙ append-nil (here t)
-
 shared-top : (k : Kind) (a : ℕ) (u : List ℕ) → sharedLeaf k (a ∷ u) ≡ false
 shared-top shared a u = refl
 shared-top (own i) a u = refl
@@ -212,15 +123,6 @@ map-same h e (r ∷ rs) = ap₂ {C = List Member} _∷_ (e r) (map-same h e rs)
 -- THE WALK from the root gives the members of the estimate
 pub walk-all : (A D : ℕ) (f : Losses) → walk A D f [] ≡ members A D (estimate A D f)
 walk-all A D f = sym (walk-members A D f []) ∙ map-same (prefix []) (λ r. refl) (members A D (estimate A D f))
-
--- ---- bounds: a value is at most the loss of the leaf
-pub bestAt-le : (A d : ℕ) (f : Losses) (i : Sample) (s : List ℕ) → bestAt A d f i s ≤ f (own i) s
-bestAt-le A zero f i s = omega (arith, bestAt-zero A f i s)
-bestAt-le A (suc d) f i s = omega (arith, bestAt-suc A d f i s)
-
-pub jointAt-le : (A d : ℕ) (f : Losses) (s : List ℕ) → jointAt A d f s ≤ f shared s
-jointAt-le A zero f s = omega (arith, jointAt-zero A f s)
-jointAt-le A (suc d) f s = omega (arith, jointAt-suc A d f s)
 
 -- ---- an unseen string: the walk does not go below it
 zero-top : (A : ℕ) (f : Losses) (k : Kind) (a : ℕ) (u : List ℕ) → estimate A zero f k (a ∷ u) ≡ false

@@ -29,6 +29,12 @@ module _ (p : List ℕ) (c : ℕ → ℕ) (kind len code : ℕ) where
 
 -- ---- reading back
 
+-- as many rows are read as are asked for
+pub rows-read : (n : ℕ) (l : List ℕ) → n ≡ length (readRows n l)
+unfolding readRows
+rows-read zero l = refl
+rows-read (suc n) l = ap suc (rows-read n (drop rowWidth l))
+
 -- a row within document 01's limits
 pub record Fits (r : Row) : Type 0 where
   pub context : T (isContext mostSymbols deepest (r .context))

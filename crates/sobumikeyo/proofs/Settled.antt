@@ -1,5 +1,5 @@
 -- Whatever the promises for C allow has one number and one set of outputs. Assumes nothing.
-use Prim.Native.Nat.{ℕ, zero, suc, _*_}
+use Prim.Native.Nat.{ℕ, _*_}
 use mathlib.Core.Path.{_≡_, refl, sym, ap, _∙_}
 use mathlib.Core.Bool.{Bool, true, false}
 use mathlib.Core.List.{List}
@@ -8,7 +8,8 @@ use lib.IntN.{ℤ}
 use lib.Ieee.{Float}
 use Rattle.replay.specs.Table.{Outcome, refused, answered}
 use Rattle.replay.specs.Machine.{Call, atDesk, asking, roomQuestion}
-use Rattle.rows.specs.Rows.{rowWidth, readRows}
+use Rattle.rows.specs.Rows.{rowWidth}
+use Rattle.rows.proofs.Written.{rows-read}
 use Rattle.rules.specs.Rules.{Answer, done, room, reported, point, charting, rules}
 use Rattle.store.specs.Sound.{soundb}
 use Rattle.store.specs.Making.{refusalOf}
@@ -82,11 +83,6 @@ left-from : (x : RoomLeft) (old : ℕ) → leftAfter x old ≡ from leftIn (room
 unfolding from leftIn
 left-from (question.Contexts n) old = refl
 left-from (question.Refused why) old = refl
-
-rows-read : (n : ℕ) (l : List ℕ) → n ≡ length (readRows n l)
-unfolding readRows
-rows-read zero l = refl
-rows-read (suc n) l = ap suc (rows-read n (drop rowWidth l))
 
 rows-from : (x : ReportAnswer) (place : ℕ) (sheet : List ℕ) (old : ℕ) → rowsAfter x old ≡ from rowsIn (reportOf x place sheet) old
 unfolding from rowsIn

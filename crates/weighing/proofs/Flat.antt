@@ -20,7 +20,8 @@ use Rattle.estimate.specs.Recursion.{Losses}
 use Rattle.estimate.proofs.Unseen.{Flat, best-flat, joint-flat}
 use Rattle.rows.specs.Members.{Member, member, onlyIf}
 use Rattle.rows.specs.Walk.{older, bestAt, separateAt, jointAt, leafAt, owns}
-use Rattle.rows.proofs.Walking.{bestAt-suc, jointAt-zero, jointAt-suc, bestAt-le, jointAt-le, walk-unseen}
+use Rattle.rows.proofs.Values.{bestAt-suc, jointAt-zero, jointAt-suc, bestAt-le, jointAt-le}
+use Rattle.rows.proofs.Walking.{walk-unseen}
 use Rattle.weighing.specs.Trees.{leastAt, membersAt, choice, markAt}
 use Rattle.weighing.proofs.Standing.{gather-empty, owns-none, members-leaf, members-joint-leaf, members-split, members-joint-split, lessBelow}
 

@@ -14,7 +14,7 @@ use Rattle.estimate.specs.Trees.{Kind, shared, own}
 use Rattle.estimate.specs.Recursion.{Losses}
 use Rattle.rows.specs.Members.{Member, member, onlyIf, gather}
 use Rattle.rows.specs.Walk.{older, separateAt, leafAt, owns, walk}
-use Rattle.rows.proofs.Walking.{bestAt-zero, bestAt-suc, jointAt-zero, jointAt-suc}
+use Rattle.rows.proofs.Values.{bestAt-zero, bestAt-suc, jointAt-zero, jointAt-suc}
 use Rattle.weighing.specs.Trees.{leastAt, membersAt, choice, markAt}
 
 -- ---- how many members there are
