@@ -3,7 +3,7 @@
 use mathlib.Core.Path.{_≡_, refl, sym, ap, ap₂, _∙_}
 use mathlib.Core.Bool.{not}
 use mathlib.Core.List.{List}
-use Prim.Native.Nat.{ℕ, suc, _+_, _-_, _*_, _/_, _^_, _≤_, _<_}
+use Prim.Native.Nat.{ℕ, zero, suc, _+_, _-_, _*_, _/_, _^_, _≤_, _<_}
 use native.Mathlib.Numerals.{add-one}
 use native.Mathlib.Omega.{arith}
 use native.Mathlib.Nat.{pow-suc}
@@ -11,13 +11,30 @@ use lib.ListN.{length, take, getD}
 use Rattle.numbers.specs.Limits.{mostSymbols, deepest}
 use Rattle.numbers.specs.Sum.{one, sum}
 use Rattle.numbers.proofs.Tests.{one-le}
+use Rattle.numbers.proofs.Orders.{less, same, more, order}
 use Rattle.contexts.specs.Keys.{deskSpan, keyOf}
 use Rattle.contexts.proofs.Strings.{context-length}
-use Rattle.contexts.proofs.KeyOrder.{digits-nil, contextKey-lt, key-step}
+use Rattle.contexts.proofs.KeyOrder.{Within, digits-nil, contextKey-lt, key-step}
 use Rattle.contexts.proofs.Followed.{context-take}
 use Rattle.records.specs.Held.{held}
 use Rattle.records.specs.Fed.{Askable}
 use Rattle.records.proofs.Growing.{lacks}
+
+-- ---- longer contexts have greater keys
+
+module _ (d : ℕ) (r : List ℕ) (c : Within r) where
+  key-next : (j : ℕ) → j < length r → keyOf d (take j r) < keyOf d (take (suc j) r)
+  key-next j h =
+      let short = context-length mostSymbols deepest r c in
+      omega (arith, key-step j (5 - j) r h (omega arith))
+
+  pub key-longer : (j m : ℕ) → j < m → m ≤ length r → keyOf d (take j r) < keyOf d (take m r)
+  key-longer j zero h g = absurd (omega arith)
+  key-longer j (suc m) h g = elim (order j m) [
+    | less l ↦ let a = key-longer j m l (omega arith) in let b = key-next m (omega arith) in omega arith
+    | same e ↦ rw e (key-next m (omega arith))
+    | more l ↦ absurd (omega arith)
+  ]
 
 -- ---- the key of the next context
 

@@ -13,6 +13,7 @@ pub mod Removing
 pub mod Feeding
 pub mod Growing
 pub mod KeyWalk
+pub mod Seeking
 pub mod FeedWalk
 pub mod Settling
 pub mod Examples

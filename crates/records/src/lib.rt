@@ -9,9 +9,10 @@ ghost use Rattle.numbers.specs.Limits.{longest};
 ghost use Rattle.numbers.specs.Sum.{one};
 ghost use Rattle.contexts.specs.Sitting.{eight, sampleOf};
 ghost use Rattle.records.specs.Records.{width, records, blank, lookup};
-ghost use Rattle.records.specs.Held.{held, recordAt, tableOf, without, Standing, Removable, Placed};
+ghost use Rattle.records.specs.Held.{held, recordAt, tableOf, without, Standing, Removable, Placed, Bounded, Onward};
 ghost use Rattle.records.specs.Bumped.{raised, bumpedAt, Cell, Bumpable, Written};
 ghost use Rattle.records.specs.Fed.{fed, missing, Askable, Feedable};
+ghost use Rattle.records.specs.Located.{Located};
 
 // How many numbers a record has.
 const WIDTH: usize = 24;
@@ -25,6 +26,18 @@ const DESK_SPAN: u32 = 2097152;
 // What the most recent symbol weighs in a key; each older one weighs an eighth of the one before.
 const NEWEST: u32 = 262144;
 
+// Where the contexts that a symbol follows stand: how many of them are held, and their places. Where one is not held, its place comes after those.
+pub struct Sought {
+    pub found: usize,
+    pub places: [usize; 7],
+}
+
+// A key's place is from `low` to `high`.
+struct Bounds {
+    low: usize,
+    high: usize,
+}
+
 // The counts of the record at a place.
 pub fn counts_at(numbers: &[u32], at: usize) -> [[u32; 8]; 2]
     requires { ⌜ width * (at + 1) ≤ length (now numbers) ⌝ }
@@ -36,22 +49,46 @@ pub fn counts_at(numbers: &[u32], at: usize) -> [[u32; 8]; 2]
     [first, second]
 }
 
-// The place of a key among the first `n` records, or where it would stand: by halving.
+// The place of a key among the first `n` records, or where it would stand.
 pub fn place_of(numbers: &[u32], n: usize, key: u32) -> usize
     requires { ⌜ Standing n (now numbers) ⌝ }
     ensures { λ r. ⌜ Placed key n r (now (numbers .entry)) ⌝ }
 {
-    let mut low: usize = 0;
-    let mut high = n;
-    while low < high {
-        let middle = low + (high - low) / 2;
-        if numbers[WIDTH * middle] < key {
-            low = middle + 1;
-        } else {
-            high = middle;
+    halve(numbers, n, Bounds { low: 0, high: n }, key)
+}
+
+// The same, sought from a place on that does not come after it: quick where it is near.
+pub fn place_from(numbers: &[u32], n: usize, from: usize, key: u32) -> usize
+    requires { ⌜ Onward key n from (now numbers) ⌝ }
+    ensures { λ r. ⌜ Placed key n r (now (numbers .entry)) ⌝ }
+{
+    let bounds = reach(numbers, n, from, key);
+    halve(numbers, n, bounds, key)
+}
+
+// Where the contexts that a symbol follows stand, from the shortest to the first that none of the `n` records has.
+// `recent` are the symbols before it, most recent first.
+pub fn seek(numbers: &[u32], n: usize, desk: u32, recent: &[u32]) -> Sought
+    requires { ⌜ Askable desk (now recent) n (now numbers) ⌝ }
+    ensures { λ r. ⌜ Located desk (now (recent .entry)) (records n (now (numbers .entry))) (r .found) (r .places) ⌝ }
+{
+    let mut places = [0usize; 7];
+    let mut key = desk * DESK_SPAN;
+    let mut weight = NEWEST;
+    let mut from: usize = 0;
+    let mut found: usize = 0;
+    while found <= recent.len() {
+        let at = place_from(numbers, n, from, key);
+        places[found] = at;
+        if !stands(numbers, n, at, key) {
+            return Sought { found, places };
         }
+        key = longer(key, weight, recent, found);
+        weight = weight / 8;
+        from = at + 1;
+        found = found + 1;
     }
-    low
+    Sought { found, places }
 }
 
 // Whether one of the first `n` records has a key.
@@ -60,10 +97,7 @@ pub fn holds(numbers: &[u32], n: usize, key: u32) -> bool
     ensures { λ r. ⌜ r ≡ held key (records n (now (numbers .entry))) ⌝ }
 {
     let at = place_of(numbers, n, key);
-    if at < n {
-        return numbers[WIDTH * at] == key;
-    }
-    false
+    stands(numbers, n, at, key)
 }
 
 // The counts under a key: zeros where none of the first `n` records has it.
@@ -158,6 +192,52 @@ pub fn feed_records(
         done = done + 1;
     }
     count
+}
+
+// Between which places a key stands, from a place on: by doubling the way.
+fn reach(numbers: &[u32], n: usize, from: usize, key: u32) -> Bounds
+    requires { ⌜ Onward key n from (now numbers) ⌝ }
+    ensures { λ r. ⌜ Bounded key n (r .low) (r .high) (now (numbers .entry)) ⌝ }
+{
+    let mut low = from;
+    let mut at = from;
+    while at < n {
+        if key <= numbers[WIDTH * at] {
+            return Bounds { low, high: at };
+        }
+        low = at + 1;
+        at = at + (low - from);
+    }
+    Bounds { low, high: n }
+}
+
+// The place of a key that stands between two places: by halving.
+fn halve(numbers: &[u32], n: usize, bounds: Bounds, key: u32) -> usize
+    requires { ⌜ Bounded key n (bounds .low) (bounds .high) (now numbers) ⌝ }
+    ensures { λ r. ⌜ Placed key n r (now (numbers .entry)) ⌝ }
+{
+    let mut low = bounds.low;
+    let mut high = bounds.high;
+    while low < high {
+        let middle = low + (high - low) / 2;
+        if numbers[WIDTH * middle] < key {
+            low = middle + 1;
+        } else {
+            high = middle;
+        }
+    }
+    low
+}
+
+// Whether the record at a key's place has it.
+fn stands(numbers: &[u32], n: usize, at: usize, key: u32) -> bool
+    requires { ⌜ Standing n (now numbers) × Placed key n at (now numbers) ⌝ }
+    ensures { λ r. ⌜ r ≡ held key (records n (now (numbers .entry))) ⌝ }
+{
+    if at < n {
+        return numbers[WIDTH * at] == key;
+    }
+    false
 }
 
 // 1 where none of the first `n` records has a key, else 0.

@@ -1,0 +1,86 @@
+-- The loop of `seek`: the contexts that are shorter than j are held, at their places. Assumes nothing.
+use mathlib.Core.Path.{_≡_, ap, _∙_}
+use mathlib.Core.Bool.{true, false}
+use mathlib.Core.List.{List}
+use Prim.Native.Nat.{ℕ, _+_, _*_, _≤_, _<_}
+use native.Mathlib.Numerals.{add-one}
+use native.Mathlib.Omega.{arith}
+use lib.ListN.{length, take, getD, set}
+use lib.Seq.{getD-set-same, getD-set-other}
+use Rattle.numbers.proofs.Orders.{less, same, more, order}
+use Rattle.contexts.specs.Keys.{keyOf}
+use Rattle.records.specs.Records.{width, records, keys}
+use Rattle.records.specs.Held.{rank, held, Placed, Onward}
+use Rattle.records.specs.Fed.{Askable}
+use Rattle.records.specs.Located.{Located}
+use Rattle.records.proofs.Rising.{rank-same, above-middle}
+use Rattle.records.proofs.Finding.{found-at}
+use Rattle.records.proofs.KeyWalk.{Walk, key-longer}
+
+-- the contexts shorter than j are held, and `from` does not come after the next
+pub record Passed (d : ℕ) (r : List ℕ) (rs : List (List ℕ)) (places : List ℕ) (from j : ℕ) : Type 0 where
+  pub are-held : (k : ℕ) → k < j → held (keyOf d (take k r)) rs ≡ true
+  pub stand-at : (k : ℕ) → k < j → getD places k 0 ≡ rank (keyOf d (take k r)) (keys rs)
+  pub no-later : j ≤ length r → from ≤ rank (keyOf d (take j r)) (keys rs)
+
+pub passed-start : (d : ℕ) (r : List ℕ) (rs : List (List ℕ)) (places : List ℕ) → Passed d r rs places 0 0
+passed-start d r rs places = record { are-held = λ k h. absurd (omega arith); stand-at = λ k h. absurd (omega arith); no-later = λ h. omega arith }
+
+module _ (d : ℕ) (r : List ℕ) (n : ℕ) (l : List ℕ) (q : Askable d r n l) (places : List ℕ) (key weight from j : ℕ) (w : Walk d r key weight j)
+    (p : Passed d r (records n l) places from j) where
+  -- all were found
+  pub located-all : length r < j → Located d r (records n l) j places
+  located-all h = record {
+    within = w .within;
+    are-held = p .are-held;
+    next-missing = λ g. absurd (omega arith);
+    stand-at = λ k g m. p .stand-at k (omega arith);
+  }
+
+  module _ (on : j ≤ length r) where
+    key-now : key ≡ keyOf d (take j r)
+    key-now = w .key-is on
+
+    pub onward : Onward key n from l
+    onward = record { standing = q .standing; no-later = rw key-now (p .no-later on) }
+
+    module _ (inside : j < length places) (at : ℕ) (found : Placed key n at l) where
+      at-is : at ≡ rank (keyOf d (take j r)) (keys (records n l))
+      at-is = rank-same key (keyOf d (take j r)) (keys (records n l)) at (found .at) key-now
+
+      stand : (k : ℕ) → k ≤ j → getD (set places j at) k 0 ≡ rank (keyOf d (take k r)) (keys (records n l))
+      stand k h = elim (order k j) [
+        | less g ↦ getD-set-other places j k at 0 (λ e. omega arith) ∙ p .stand-at k g
+        | same e ↦ rw e (getD-set-same places j at 0 inside ∙ at-is)
+        | more g ↦ absurd (omega arith)
+      ]
+
+      -- the next one is missing
+      pub located-here : held key (records n l) ≡ false → Located d r (records n l) j (set places j at)
+      located-here h = record {
+        within = w .within;
+        are-held = p .are-held;
+        next-missing = λ g. rw key-now at h;
+        stand-at = λ k g m. stand k g;
+      }
+
+      -- .. or is held
+      module _ (h : held key (records n l) ≡ true) where
+        there : (at < n) × (getD l (width * at) 0 ≡ key)
+        there = found-at key n at l (q .standing .rising) (found .at) h
+
+        held-to : (k : ℕ) → k < j + 1 → held (keyOf d (take k r)) (records n l) ≡ true
+        held-to k g = elim (order k j) [
+          | less m ↦ p .are-held k m
+          | same e ↦ rw (e, ← key-now) h
+          | more m ↦ absurd (omega arith)
+        ]
+
+        later : j + 1 ≤ length r → at + 1 ≤ rank (keyOf d (take (j + 1) r)) (keys (records n l))
+        later g =
+            let more = key-longer d r (q .context) j (j + 1) (omega arith) g in
+            let past = above-middle n at (keyOf d (take (j + 1) r)) l (there .0) (q .standing .rising) (omega (arith, there .1, key-now)) in
+            omega arith
+
+        pub passed-on : Passed d r (records n l) (set places j at) (at + 1) (j + 1)
+        passed-on = record { are-held = held-to; stand-at = λ k g. stand k (omega arith); no-later = later }
