@@ -14,6 +14,8 @@ pub mod Feeding
 pub mod Growing
 pub mod KeyWalk
 pub mod Seeking
-pub mod FeedWalk
+pub mod Running
+pub mod Opening
+pub mod Raising
 pub mod Settling
 pub mod Examples

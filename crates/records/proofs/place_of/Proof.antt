@@ -1,10 +1,6 @@
 -- `records::place_of` meets its contract: the place is one of all. Assumes nothing.
-use mathlib.Core.Path.{_≡_}
-use Prim.Native.Nat.{_≤_}
 use native.Mathlib.Omega.{arith}
 use borrow.Author.Needs.{needs}
-use Rattle.records.specs.Records.{records, keys}
-use Rattle.records.specs.Held.{rank}
 use Rattle.records.proofs.Rising.{rank-within}
 use Rattle.records.proofs.place_of.Statement.{statement}
 use Rattle.records.proofs.place_of.Tie as tie

@@ -1,6 +1,5 @@
 -- `records::seek` meets its contract: the contexts that are shorter than `found` are held, at their places. Assumes nothing.
 use mathlib.Core.Path.{_≡_, refl, sym, _∙_}
-use mathlib.Core.Bool.{true, false}
 use Prim.Native.Nat.{_+_, _-_, _≤_, _<_}
 use native.Mathlib.Omega.{arith}
 use borrow.Author.Tests.{not-true, not-false}
@@ -65,7 +64,7 @@ longer-requires c κs =
     let start = placed .before .before .before .before .before in
     let x = start .args in
     let at = placed .before .before .loop in
-    walk-fits (x .desk) (x .recent .now) (x .n) (x .numbers .now) (start .pre) (at .key) (at .weight) (at .found) (at .inv .0)
+    walk-fits (x .desk) (x .recent .now) (start .pre .desk) (start .pre .context) (at .key) (at .weight) (at .found) (at .inv .0)
 
 add-from : tie.Need-add-from Inv-loop μ-loop
 add-from c =
@@ -86,7 +85,7 @@ loop-again c =
     let x = start .args in
     let at = placed .before .before .loop in
     let on : at .found ≤ length (x .recent .now) = omega arith in (
-      walk-on (x .desk) (x .recent .now) (x .n) (x .numbers .now) (start .pre) (at .key) (at .weight) (at .found) (at .inv .0) (c .longer .result) on (c .longer .ensures),
+      walk-on (x .desk) (x .recent .now) (start .pre .desk) (start .pre .context) (at .key) (at .weight) (at .found) (at .inv .0) (c .longer .result) on (c .longer .ensures),
       passed-on (x .desk) (x .recent .now) (x .n) (x .numbers .now) (start .pre) (at .places) (at .key) (at .weight) (at .from) (at .found) (at .inv .0) (at .inv .1) on
           (inside placed) (placed .place-from .result) (placed .place-from .ensures) (sym (c .before .before .stands .ensures) ∙ not-false _ (c .before .if1 .left)),
       simp length-set (at .inv .2),
