@@ -1,33 +1,37 @@
 -- What a sound store's records meet of what their functions ask, and how a desk's records are counted. Assumes nothing.
 use mathlib.Core.Path.{_≡_, sym, ap, ap₂, _∙_}
-use mathlib.Core.Bool.{true}
-use mathlib.Core.List.{List, _++_}
+use mathlib.Core.Bool.{true, false}
+use mathlib.Core.List.{List, [], _++_}
 use Prim.Native.Nat.{ℕ, _+_, _-_, _*_, _≤_, _<_}
 use native.Mathlib.Nat.{mul-le-mul-left}
 use native.Mathlib.Omega.{arith}
+use borrow.Author.Tests.{le-ltb}
+use lib.Dec.{ltb}
 use lib.ListN.{length, take, drop, getD, length-append, length-drop}
 use lib.Seq.{length-take-le}
 use Rattle.numbers.specs.Limits.{mostSymbols, deepest, longest, mostRoom}
 use Rattle.numbers.proofs.Sums.{sum-part}
-use Rattle.contexts.specs.Keys.{deskSpan}
+use Rattle.contexts.specs.Keys.{deskSpan, keyOf}
 use Rattle.contexts.specs.Sitting.{Sample, sampleOf}
 use Rattle.contexts.proofs.Strings.{context-length}
+use Rattle.contexts.proofs.KeyOrder.{digits-nil, contextKey-lt}
+use Rattle.contexts.proofs.Followed.{context-take}
 use Rattle.records.specs.Records.{width, records, keys, countsOf, lookup, countOf}
-use Rattle.records.specs.Held.{rank, keep, ofDesk, without, Standing, Removable}
+use Rattle.records.specs.Held.{rank, keep, ofDesk, without, Standing}
 use Rattle.records.specs.Fed.{missing, Askable, Feedable}
+use Rattle.records.specs.Located.{Located}
 use Rattle.records.proofs.Parts.{length-parts}
-use Rattle.records.proofs.Rising.{rank-mono, length-keys, rank-length}
+use Rattle.records.proofs.Rising.{rank-mono, rank-same, length-keys, rank-length}
 use Rattle.records.proofs.Finding.{lookup-each, lookup-place}
 use Rattle.records.proofs.Counting.{count-blank}
-use Rattle.records.proofs.Growing.{missing-le}
 use Rattle.records.proofs.Lent.{tail-lent}
 use Rattle.records.proofs.Desks.{length-without, without-cut}
-use Rattle.store.specs.Layout.{headerSize, room, used, recordsIn, totalOf}
+use Rattle.store.specs.Layout.{headerSize, room, used, field, reserveAt, recordsIn, totalOf}
 use Rattle.store.specs.Sound.{soundb, heldBy}
 use Rattle.store.specs.Plain.{Open, recordFor, recordAt}
 use Rattle.store.proofs.Parts.{records-length}
 use Rattle.store.proofs.Standing.{sound-stands}
-use Rattle.feeding.specs.FedStore.{Acceptable, recentAt}
+use Rattle.feeding.specs.FedStore.{Found, Spanned, Acceptable, recentAt}
 use Rattle.feeding.proofs.Recent.{recent-within}
 use Rattle.feeding.proofs.Before.{rising, standing}
 use Rattle.feeding.proofs.Filling.{room-missing}
@@ -74,33 +78,57 @@ desk-many d n l low high st e f =
     (up, omega (arith, length-without d rs))
 
 -- the records part as it is lent to be read
-module _ (s : List ℕ) (h : soundb s ≡ true) (d : ℕ) (r : List ℕ) (q : Askable d r (used s) (drop headerSize s)) where
-  abbrev lent : List ℕ
-  lent = take (length s - headerSize) (drop headerSize s)
+abbrev lent : List ℕ → List ℕ
+lent s = take (length s - headerSize) (drop headerSize s)
 
-  pub lent-removable : Removable d (used s) lent
-  lent-removable = rw (tail-lent headerSize s) (record { standing = q .standing; desk = q .desk })
+module _ (s : List ℕ) (d : ℕ) (r : List ℕ) where
+  pub lent-askable : Askable d r (used s) (drop headerSize s) → Askable d r (used s) (lent s)
+  lent-askable q = rw (tail-lent headerSize s) q
 
-  pub lent-askable : Askable d r (used s) lent
-  lent-askable = rw (tail-lent headerSize s) q
+  pub located-in : (m : ℕ) (places : List ℕ) → Located d r (records (used s) (lent s)) m places → Located d r (recordsIn s) m places
+  unfolding recordsIn
+  located-in m places at = rw (tail-lent headerSize s) at at
 
-  -- what is held and what is missing, counted there
-  module _ (x y : ℕ) (e : x ≡ length (keep (ofDesk d) (records (used s) lent))) (f : y ≡ missing d r (records (used s) lent)) where
-    pub then-small : x + y ≤ mostRoom + 7
-    then-small =
-        omega (
-          arith,
-          length-without d (records (used s) lent),
-          length-parts width (used s) lent,
-          missing-le d r (records (used s) lent),
-          context-length mostSymbols deepest r (q .context),
-          sound-stands s h .few,
-          sound-stands s h .room-most,
-        )
+-- what the missing contexts are judged by
+module _ (s : List ℕ) (d : ℕ) (r : List ℕ) (m : ℕ) (places : List ℕ) (f : Found s d r m places) where
+  held-most : heldBy d (recordsIn s) ≤ reserveAt s d
+  held-most = sound-stands s (f .sound) .reserved-held d (f .at-open)
 
-    pub then-is : x + y ≡ heldBy d (recordsIn s) + missing d r (recordsIn s)
+  -- where none is missing the sitting stays within its reservation
+  pub none-past : length r < m → false ≡ ltb (reserveAt s d) (heldBy d (recordsIn s) + (length r + 1 - m))
+  none-past h = sym (le-ltb (reserveAt s d) (heldBy d (recordsIn s) + (length r + 1 - m)) (omega (arith, held-most)))
+
+  -- .. and where one is, the desk's records are counted
+  module _ (on : m ≤ length r) where
+    pub spanned : Spanned d (used s) (getD places 0 0) (getD places m 0) (lent s)
     unfolding recordsIn
-    then-is =
-        let held-there : x ≡ heldBy d (records (used s) (drop headerSize s)) = e ∙ rw (tail-lent headerSize s) in
-        let missing-there : y ≡ missing d r (records (used s) (drop headerSize s)) = f ∙ rw (tail-lent headerSize s) in
-        ap₂ _+_ held-there missing-there
+    spanned =
+        let least : keyOf d [] ≡ d * deskSpan = omega (arith, digits-nil deepest) in
+        let below = contextKey-lt (take m r) (context-take mostSymbols deepest m r (f .context)) in
+        let ks = keys (recordsIn s) in
+        rw (tail-lent headerSize s) (record {
+          standing = standing s (f .sound);
+          desk = f .at-open .desk;
+          begin = rank-same (keyOf d []) (d * deskSpan) ks (getD places 0 0) (f .located .stand-at 0 (omega arith) (omega arith)) least;
+          no-later = rw (f .located .stand-at m (omega arith) on) (rank-mono (keyOf d (take m r)) ((d + 1) * deskSpan) ks (omega arith));
+        })
+
+    module _ (x y : ℕ) (e : x ≡ length (keep (ofDesk d) (records (used s) (lent s)))) (g : y ≡ field s d 3) where
+      counted : x ≡ heldBy d (recordsIn s)
+      unfolding recordsIn
+      counted = e ∙ rw (tail-lent headerSize s)
+
+      pub sum-small : x + (length r + 1 - m) ≤ mostRoom + 7
+      sum-small =
+          omega (
+            arith,
+            counted,
+            length-without d (recordsIn s),
+            records-length s,
+            context-length mostSymbols deepest r (f .context),
+            sound-stands s (f .sound) .few,
+            sound-stands s (f .sound) .room-most,
+          )
+
+      pub past-is : ltb y (x + (length r + 1 - m)) ≡ ltb (reserveAt s d) (heldBy d (recordsIn s) + (length r + 1 - m))
+      past-is = ap₂ (λ (u v : ℕ). ltb u (v + (length r + 1 - m))) g counted

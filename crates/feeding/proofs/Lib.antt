@@ -2,6 +2,7 @@ pub mod Recent
 pub mod Before
 pub mod Counted
 pub mod Owning
+pub mod Clearing
 pub mod Reserving
 pub mod Header
 pub mod Filling

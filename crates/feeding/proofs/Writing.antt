@@ -9,6 +9,7 @@ use Rattle.contexts.specs.Sitting.{sampleOf}
 use Rattle.records.specs.Records.{records}
 use Rattle.records.specs.Bumped.{Written}
 use Rattle.records.specs.Fed.{fed, Feedable}
+use Rattle.records.specs.Located.{Located, Ready}
 use Rattle.records.proofs.Lent.{tail-lent, tail-back}
 use Rattle.records.proofs.Settling.{written-count}
 use Rattle.store.specs.Layout.{headerSize, used, deskStart, sizeField, recentField, recordsIn}
@@ -17,6 +18,7 @@ use Rattle.feeding.specs.FedStore.{FedStore, Acceptable, recentAt, recor
 use Rattle.feeding.specs.Noted.{noted, Places}
 use Rattle.feeding.proofs.Numbering.{size-number, recent-number, desk-places}
 use Rattle.feeding.proofs.Filling.{room-enough}
+use Rattle.feeding.proofs.Clearing.{clear-from}
 use Rattle.feeding.proofs.Placing.{counted-long, counted-header, header-long, fed-store}
 use Rattle.feeding.proofs.Asking.{feedable}
 
@@ -24,8 +26,16 @@ module _ (s : List ℕ) (d k a : ℕ) (p : Acceptable s d (sampleOf k) a) (one :
   abbrev lent : List ℕ
   lent = take (length s - headerSize) (drop headerSize s)
 
-  pub lent-feedable : Feedable d k a r (used s) lent
+  lent-feedable : Feedable d k a r (used s) lent
   lent-feedable = rw (e, tail-lent headerSize s) (feedable s d k a one p)
+
+  pub lent-ready : (m : ℕ) (places : List ℕ) → Located d r (recordsIn s) m places → Ready d k a r (used s) lent m places
+  unfolding recordsIn
+  lent-ready m places at = record {
+    feedable = lent-feedable;
+    located = rw (tail-lent headerSize s) at;
+    clear = rw (tail-lent headerSize s) (clear-from s (p .sound) d (p .at-open) (sampleOf k) r e m places at);
+  }
 
   module _ (m : ℕ) (ys : List ℕ) (long : length ys ≡ length lent) (w : Written (fed d (sampleOf k) a r (records (used s) lent)) m lent ys) where
     abbrev back : List ℕ

@@ -1,27 +1,29 @@
 // Feeding at a store: one symbol, and a run of them after one soundness test.
 ghost use mathlib.Core.Path.{_≡_};
 ghost use mathlib.Core.Bool.{true};
-ghost use Prim.Native.Nat.{min, _+_, _≤_, _<_};
+ghost use Prim.Native.Nat.{min, _+_, _-_, _≤_, _<_};
+ghost use lib.Dec.{ltb};
 ghost use lib.ListN.{length, take, drop, getD};
 ghost use Rattle.numbers.specs.Limits.{deepest, longest};
 ghost use Rattle.contexts.specs.Sitting.{sampleOf};
 ghost use Rattle.records.specs.Records.{records};
-ghost use Rattle.records.specs.Held.{keep, ofDesk, Removable};
-ghost use Rattle.records.specs.Fed.{missing, Askable};
+ghost use Rattle.records.specs.Held.{keep, ofDesk};
+ghost use Rattle.records.specs.Fed.{Askable};
+ghost use Rattle.records.specs.Located.{Located};
 ghost use Rattle.replay.specs.Machine.{atDesk, asking};
-ghost use Rattle.store.specs.Layout.{headerSize, used, recordsIn};
+ghost use Rattle.store.specs.Layout.{headerSize, used, reserveAt, recordsIn};
 ghost use Rattle.store.specs.Sound.{soundb, heldBy};
 ghost use Rattle.rules.specs.Rules.{feed};
 ghost use Rattle.calls.specs.Refusals.{outcomeOf};
 ghost use Rattle.calls.specs.Promises.{Moves};
-ghost use Rattle.feeding.specs.FedStore.{shifted, recentAt, Judged, Acceptable, FedStore};
+ghost use Rattle.feeding.specs.FedStore.{shifted, recentAt, Judged, Found, Spanned, Acceptable, FedStore};
 ghost use Rattle.feeding.specs.Noted.{noted, Places};
 ghost use Rattle.feeding.specs.Run.{endingOf, Runs};
 use calls::Refusal;
 use calls::Verdict;
 use records::feed_records;
-use records::missing_in;
-use records::place_of;
+use records::place_from;
+use records::seek;
 use store::layout::DEPTH;
 use store::layout::DESK_SIZE;
 use store::layout::DESK_SPAN;
@@ -137,11 +139,12 @@ fn feed_judged(store: &mut [u32], desk: u32, sample: u32, symbol: u32) -> Verdic
         store,
         FIRST_DESK + DESK_SIZE * d + (RECENT_FIRST + SLOTS * i),
     );
-    let reserve = field_at(store, d, RESERVE) as usize;
-    if reserve < held_then(store, desk, &slots[..many]) {
+    let mut places = [0usize; 7];
+    let found = seek_in(store, desk, &slots[..many], &mut places);
+    if is_past(store, desk, &slots[..many], found, &places) {
         return Verdict::Refused(Refusal::PastReservation);
     }
-    write_feed(store, desk, sample, symbol, &slots[..many]);
+    write_feed(store, desk, sample, symbol, &slots[..many], found, &places);
     Verdict::Done
 }
 
@@ -170,35 +173,55 @@ fn six_from(store: &[u32], at: usize) -> [u32; 6]
     ]
 }
 
-// How many contexts the desk's sitting holds after a symbol that follows `recent`.
-fn held_then(store: &[u32], desk: u32, recent: &[u32]) -> usize
-    requires { ⌜ (soundb (now store) ≡ true) × Askable desk (now recent) (used (now store)) (drop headerSize (now store)) ⌝ }
-    ensures { λ r. ⌜ r ≡ heldBy desk (recordsIn (now (store .entry))) + missing desk (now (recent .entry)) (recordsIn (now (store .entry))) ⌝ }
+// Puts down where the contexts of a symbol that follows `recent` stand among the store's records, and answers how many are held.
+fn seek_in(store: &[u32], desk: u32, recent: &[u32], places: &mut [usize]) -> usize
+    requires { ⌜ (soundb (now store) ≡ true) × Askable desk (now recent) (used (now store)) (drop headerSize (now store)) × (length (now recent) < length (now places)) ⌝ }
+    ensures { λ r. ⌜ Located desk (now (recent .entry)) (recordsIn (now (store .entry))) r (now (places .exit)) ⌝ }
 {
     let many = store[USED] as usize;
-    let body = &store[HEADER..];
-    held_by(body, many, desk) + missing_in(body, many, desk, recent)
+    seek(&store[HEADER..], many, desk, recent, places)
 }
 
-// How many of the first `n` records are a desk's.
-fn held_by(numbers: &[u32], n: usize, desk: u32) -> usize
-    requires { ⌜ Removable desk n (now numbers) ⌝ }
+// Whether the contexts that are missing would take the sitting past its reservation. Where none is, what it holds need not be counted.
+fn is_past(store: &[u32], desk: u32, recent: &[u32], found: usize, places: &[usize]) -> bool
+    requires { ⌜ Found (now store) desk (now recent) found (now places) ⌝ }
+    ensures { λ r. ⌜ r ≡ ltb (reserveAt (now (store .entry)) desk) (heldBy desk (recordsIn (now (store .entry))) + (length (now (recent .entry)) + 1 - found)) ⌝ }
+{
+    if recent.len() < found {
+        return false;
+    }
+    let more = recent.len() + 1 - found;
+    let many = store[USED] as usize;
+    let held = held_by(&store[HEADER..], many, desk, places[0], places[found]);
+    let reserve = field_at(store, desk as usize, RESERVE) as usize;
+    reserve < held + more
+}
+
+// How many of the first `n` records are a desk's: the first is at a place, and the last not before another.
+fn held_by(numbers: &[u32], n: usize, desk: u32, first: usize, from: usize) -> usize
+    requires { ⌜ Spanned desk n first from (now numbers) ⌝ }
     ensures { λ r. ⌜ r ≡ length (keep (ofDesk desk) (records n (now (numbers .entry)))) ⌝ }
 {
-    let least = desk * DESK_SPAN;
-    let past = least + DESK_SPAN;
-    let first = place_of(numbers, n, least);
-    let next = place_of(numbers, n, past);
-    next - first
+    let past = desk * DESK_SPAN + DESK_SPAN;
+    place_from(numbers, n, from, past) - first
 }
 
 // Writes an accepted feed: the records, then the header. `recent` are the symbols before it, most recent first.
-fn write_feed(store: &mut [u32], desk: u32, sample: u32, symbol: u32, recent: &[u32])
-    requires { ⌜ Acceptable (now store) desk (sampleOf sample) symbol × (sample ≤ 1) × (now recent ≡ recentAt (now store) desk (sampleOf sample)) ⌝ }
+fn write_feed(
+    store: &mut [u32],
+    desk: u32,
+    sample: u32,
+    symbol: u32,
+    recent: &[u32],
+    found: usize,
+    places: &[usize],
+)
+    requires { ⌜ Acceptable (now store) desk (sampleOf sample) symbol × (sample ≤ 1) × (now recent ≡ recentAt (now store) desk (sampleOf sample)) × Located desk (now recent) (recordsIn (now store)) found (now places) ⌝ }
     ensures { λ _. ⌜ FedStore (now (store .entry)) (now (store .exit)) desk (sampleOf sample) symbol ⌝ }
 {
     let many = store[USED] as usize;
-    let count = feed_records(&mut store[HEADER..], many, desk, sample, symbol, recent);
+    let body = &mut store[HEADER..];
+    let count = feed_records(body, many, desk, sample, symbol, recent, found, places);
     let start = FIRST_DESK + DESK_SIZE * desk as usize;
     let i = sample as usize;
     let size = start + (SIZE_FIRST + i);

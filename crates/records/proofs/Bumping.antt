@@ -1,6 +1,6 @@
 -- What one more count under a key does to records whose keys rise: to what stands under each key, to the order, to what is held and to their number.
 -- Assumes nothing.
-use mathlib.Core.Path.{_≡_, refl, sym, ap, _∙_}
+use mathlib.Core.Path.{_≡_, refl, sym, ap, subst, _∙_}
 use mathlib.Core.Logic.{_≢_}
 use mathlib.Core.Bool.{Bool, true, false, cond, not, _||_, or-self-left}
 use mathlib.Core.List.{List, [], _∷_}
@@ -33,6 +33,12 @@ module _ (k c : ℕ) (r : List ℕ) (rs : List (List ℕ)) where
   pub bumped-before : k < key r → bumpedAt k c (r ∷ rs) ≡ raised c (blank k) ∷ r ∷ rs
   unfolding bumpedAt
   bumped-before h = rw (le-ltb (key r) k (omega arith), ne-eqb (key r) k (λ e. omega arith))
+
+-- before all records
+pub bumped-front : (k c : ℕ) (rs : List (List ℕ)) → T (rises (suc k) (keys rs)) → bumpedAt k c rs ≡ raised c (blank k) ∷ rs
+unfolding bumpedAt
+bumped-front k c [] up = refl
+bumped-front k c (r ∷ rs) up = bumped-before k c r rs (rises-first (suc k) (key r) (keys rs) up)
 
 -- every record still has all its numbers
 pub wide-bumped : (k c : ℕ) (rs : List (List ℕ)) → Wide rs → Wide (bumpedAt k c rs)
@@ -127,4 +133,18 @@ module _ (c : ℕ) (past : 1 ≤ c) where
         | less h ↦ rw (bumped-later k c r rs h, held-bumped k k′ rs) (or-swap (eqb (key r) k′) (eqb k k′) (held k′ rs))
         | same e ↦ rw (bumped-here k c r rs e, key-raised r, e) (sym (or-self-left (eqb k k′) (held k′ rs)))
         | more h ↦ rw (bumped-before k c r rs h, key-raised (blank k))
+      ]
+
+  -- where k was held, the keys are as before
+  pub keys-bumped : (k lo : ℕ) (rs : List (List ℕ)) → T (rises lo (keys rs)) → held k rs ≡ true → keys (bumpedAt k c rs) ≡ keys rs
+  unfolding held
+  keys-bumped k lo [] up h = absurd (subst T (sym h) tt)
+  keys-bumped k lo (r ∷ rs) up h =
+      let rest = rises-rest lo (key r) (keys rs) up in
+      elim (order (key r) k) [
+        | less l ↦ rw (bumped-later k c r rs l, keys-bumped k (suc (key r)) rs rest (rw (ne-eqb (key r) k (λ e. omega arith)) at h))
+        | same e ↦ rw (bumped-here k c r rs e, key-raised r)
+        | more l ↦
+            let none = held-none k (suc (key r)) rs rest (omega arith) in
+            absurd (subst T (sym (rw (ne-eqb (key r) k (λ e. omega arith), none) at h)) tt)
       ]

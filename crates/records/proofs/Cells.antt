@@ -1,11 +1,11 @@
--- A record's counts as the code reads them, eight numbers after a place. Assumes nothing.
+-- Eight numbers from a place on, as the code reads and writes them, and a record's counts. Assumes nothing.
 use mathlib.Core.Path.{_≡_, refl, sym, ap, _∙_}
 use mathlib.Core.List.{List, [], _∷_}
 use Prim.Native.Nat.{ℕ, zero, suc, _+_, _-_, _*_, _≤_}
 use native.Mathlib.Numerals.{towards-suc}
 use native.Mathlib.Omega.{arith}
-use lib.ListN.{length, take, drop, getD}
-use lib.Seq.{drop-cons, drop-drop, take-take}
+use lib.ListN.{length, take, drop, getD, set}
+use lib.Seq.{drop-cons, drop-drop, take-take, take-all}
 use Rattle.numbers.specs.Limits.{mostSymbols}
 use Rattle.numbers.proofs.Lists.{drop-take}
 use Rattle.contexts.specs.Sitting.{eight}
@@ -22,19 +22,38 @@ unfolding cells
 take-cells zero at l h = refl
 take-cells (suc n) at l h = ap (take (suc n)) (drop-cons l at 0 (omega arith)) ∙ ap (λ (t : List ℕ). getD l at 0 ∷ t) (take-cells n (suc at) l (omega arith))
 
-eight-cells : (at : ℕ) (l : List ℕ) → at + 9 ≤ length l → eight (λ a. getD l (at + (1 + a)) 0) ≡ take mostSymbols (drop (at + 1) l)
+-- eight numbers read
+pub eight-read : (at : ℕ) (l : List ℕ) → at + mostSymbols ≤ length l
+    → getD l at 0 ∷ getD l (at + 1) 0 ∷ getD l (at + 2) 0 ∷ getD l (at + 3) 0 ∷ getD l (at + 4) 0 ∷ getD l (at + 5) 0 ∷ getD l (at + 6) 0 ∷ getD l (at + 7) 0 ∷ []
+    ≡ take mostSymbols (drop at l)
 unfolding cells
-eight-cells at l h = sym (take-cells 8 (at + 1) l (omega arith) ∙ simp towards-suc)
+eight-read at l h = sym (take-cells 8 at l h ∙ simp towards-suc)
 
--- the eight counts after number `from` of the record at place p
-pub record-cells : (p from : ℕ) (l : List ℕ) → width * (p + 1) ≤ length l → from + 9 ≤ width
-    → eight (λ a. getD l (width * p + from + (1 + a)) 0) ≡ take mostSymbols (drop (from + 1) (recordAt p l))
-record-cells p from l h g =
-    let start : width * p + from + 1 ≡ width * p + (from + 1) = omega arith in
-    eight-cells (width * p + from) l (omega arith)
-    ∙ ap (λ (k : ℕ). take mostSymbols (drop k l)) start
-    ∙ sym (
-    ap (take mostSymbols) (drop-take (from + 1) width (drop (width * p) l))
-    ∙ take-take mostSymbols (width - (from + 1)) (drop (from + 1) (drop (width * p) l)) (omega arith)
-    ∙ ap (take mostSymbols) (drop-drop (from + 1) (width * p) l)
+-- .. and written
+eight-set : (f : ℕ → ℕ) (l : List ℕ) → length l ≡ mostSymbols
+    → set (set (set (set (set (set (set (set l 0 (f 0)) 1 (f 1)) 2 (f 2)) 3 (f 3)) 4 (f 4)) 5 (f 5)) 6 (f 6)) 7 (f 7) ≡ eight f
+eight-set f [] e = absurd (omega arith)
+eight-set f (s ∷ []) e = absurd (omega arith)
+eight-set f (s ∷ t ∷ []) e = absurd (omega arith)
+eight-set f (s ∷ t ∷ u ∷ []) e = absurd (omega arith)
+eight-set f (s ∷ t ∷ u ∷ v ∷ []) e = absurd (omega arith)
+eight-set f (s ∷ t ∷ u ∷ v ∷ w ∷ []) e = absurd (omega arith)
+eight-set f (s ∷ t ∷ u ∷ v ∷ w ∷ x ∷ []) e = absurd (omega arith)
+eight-set f (s ∷ t ∷ u ∷ v ∷ w ∷ x ∷ y ∷ []) e = absurd (omega arith)
+eight-set f (s ∷ t ∷ u ∷ v ∷ w ∷ x ∷ y ∷ z ∷ []) e = refl
+eight-set f (s ∷ t ∷ u ∷ v ∷ w ∷ x ∷ y ∷ z ∷ k ∷ l) e = absurd (omega arith)
+
+pub eight-written : (l e : List ℕ) → length l ≡ mostSymbols → length e ≡ mostSymbols
+    → set (set (set (set (set (set (set (set l 0 (getD e 0 0)) 1 (getD e 1 0)) 2 (getD e 2 0)) 3 (getD e 3 0)) 4 (getD e 4 0)) 5 (getD e 5 0)) 6 (getD e 6 0)) 7 (getD e 7 0) ≡ e
+unfolding cells
+eight-written l e h g = eight-set (λ a. getD e a 0) l h ∙ sym (take-cells 8 0 e (omega arith)) ∙ take-all 8 e (omega arith)
+
+-- the eight numbers from number `from` of the record at place p on
+pub record-cells : (p from : ℕ) (l : List ℕ) → from + mostSymbols ≤ width
+    → take mostSymbols (drop (width * p + from) l) ≡ take mostSymbols (drop from (recordAt p l))
+record-cells p from l g =
+    sym (
+    ap (take mostSymbols) (drop-take from width (drop (width * p) l))
+    ∙ take-take mostSymbols (width - from) (drop from (drop (width * p) l)) (omega arith)
+    ∙ ap (take mostSymbols) (drop-drop from (width * p) l)
     )

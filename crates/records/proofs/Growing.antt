@@ -9,8 +9,7 @@ use borrow.Author.Tests.{le-ltb, eq-eqb, ne-eqb}
 use lib.Dec.{T, eqb, eqb→eq}
 use lib.ListN.{length, take, length-take}
 use Rattle.numbers.specs.Sum.{one, sum}
-use Rattle.numbers.proofs.Tests.{one-le}
-use Rattle.numbers.proofs.Sums.{sum-mono, sum-cong, sum-same}
+use Rattle.numbers.proofs.Sums.{sum-cong}
 use Rattle.contexts.specs.Keys.{keyOf, deskOf}
 use Rattle.contexts.specs.Sitting.{Sample}
 use Rattle.contexts.proofs.KeyOrder.{Within, deskOf-key}
@@ -26,12 +25,6 @@ use Rattle.records.proofs.Feeding.{rising-fedTo, held-fedTo}
 -- whether the context of length j is missing, as a number
 abbrev pub lacks : ℕ → List ℕ → List (List ℕ) → ℕ → ℕ
 lacks d r rs j = one (not (held (keyOf d (take j r)) rs))
-
--- at most one for each context
-pub missing-le : (d : ℕ) (r : List ℕ) (rs : List (List ℕ)) → missing d r rs ≤ length r + 1
-missing-le d r rs =
-    let most : missing d r rs ≤ sum (suc (length r)) (λ j. 1) = sum-mono (suc (length r)) (λ j l. one-le (not (held (keyOf d (take j r)) rs))) in
-    omega (arith, sum-same (suc (length r)) 1)
 
 -- where a key that is held after a feed comes from: it was held before, or is that of a context that the symbol follows
 pub data Origin (d : ℕ) (r : List ℕ) (rs : List (List ℕ)) (k : ℕ) : Type 0 where

@@ -12,10 +12,10 @@ use Rattle.numbers.proofs.Tests.{both, left, right, of-true}
 use Rattle.numbers.proofs.Orders.{less, same, more, order}
 use Rattle.records.specs.Records.{key, keys, rises, blank, lookup}
 use Rattle.records.specs.Held.{held, keep, Wide}
-use Rattle.records.specs.Bumped.{raised, bumpedAt}
+use Rattle.records.specs.Bumped.{bumpedAt}
 use Rattle.records.proofs.Rising.{rises-first, rises-rest, rises-cons, rises-weaken}
 use Rattle.records.proofs.Finding.{lookup-absent}
-use Rattle.records.proofs.Bumping.{bumped-later, bumped-here, bumped-before, key-raised}
+use Rattle.records.proofs.Bumping.{bumped-later, bumped-here, bumped-before, bumped-front, key-raised}
 
 -- ---- any test
 
@@ -107,11 +107,6 @@ module _ (p : ℕ → Bool) where
         | same e ↦ rw (bumped-here k c r rs e, key-raised c past r, e, h)
         | more l ↦ rw (bumped-before k c r rs l, key-raised c past (blank k), h)
       ]
-
-  bumped-front : (k c : ℕ) (rs : List (List ℕ)) → T (rises (suc k) (keys rs)) → bumpedAt k c rs ≡ raised c (blank k) ∷ rs
-  unfolding bumpedAt
-  bumped-front k c [] up = refl
-  bumped-front k c (r ∷ rs) up = bumped-before k c r rs (rises-first (suc k) (key r) (keys rs) up)
 
   -- .. and under one that it keeps
   pub keep-bumped-own : (k c lo : ℕ) (rs : List (List ℕ)) → 1 ≤ c → T (rises lo (keys rs)) → p k ≡ true → keep p (bumpedAt k c rs) ≡ bumpedAt k c (keep p rs)

@@ -1,23 +1,44 @@
--- The loops that walk the recent symbols of a feed, from the empty context to the longest: the key of each context, and counting the missing.
--- Assumes nothing.
-use mathlib.Core.Path.{_≡_, refl, sym, ap, ap₂, _∙_}
-use mathlib.Core.Bool.{not}
+-- The loops that walk the recent symbols of a feed, from the empty context to the longest: the key of each context. Assumes nothing.
+use mathlib.Core.Path.{_≡_, refl, sym, ap, _∙_}
 use mathlib.Core.List.{List}
-use Prim.Native.Nat.{ℕ, suc, _+_, _-_, _*_, _/_, _^_, _≤_, _<_}
+use Prim.Native.Nat.{ℕ, zero, suc, _+_, _-_, _*_, _/_, _^_, _≤_, _<_}
 use native.Mathlib.Numerals.{add-one}
 use native.Mathlib.Omega.{arith}
 use native.Mathlib.Nat.{pow-suc}
 use lib.ListN.{length, take, getD}
-use Rattle.numbers.specs.Limits.{mostSymbols, deepest}
-use Rattle.numbers.specs.Sum.{one, sum}
-use Rattle.numbers.proofs.Tests.{one-le}
+use lib.Seq.{take-length}
+use Rattle.numbers.specs.Limits.{mostSymbols, deepest, desks}
+use Rattle.numbers.proofs.Orders.{less, same, more, order}
 use Rattle.contexts.specs.Keys.{deskSpan, keyOf}
 use Rattle.contexts.proofs.Strings.{context-length}
-use Rattle.contexts.proofs.KeyOrder.{digits-nil, contextKey-lt, key-step}
+use Rattle.contexts.proofs.KeyOrder.{Within, digits-nil, contextKey-lt, key-step}
 use Rattle.contexts.proofs.Followed.{context-take}
-use Rattle.records.specs.Held.{held}
-use Rattle.records.specs.Fed.{Askable}
-use Rattle.records.proofs.Growing.{lacks}
+
+-- ---- longer contexts have greater keys
+
+module _ (d : ℕ) (r : List ℕ) (c : Within r) where
+  key-next : (j : ℕ) → j < length r → keyOf d (take j r) < keyOf d (take (suc j) r)
+  key-next j h =
+      let short = context-length mostSymbols deepest r c in
+      omega (arith, key-step j (5 - j) r h (omega arith))
+
+  pub key-longer : (j m : ℕ) → j < m → m ≤ length r → keyOf d (take j r) < keyOf d (take m r)
+  key-longer j zero h g = absurd (omega arith)
+  key-longer j (suc m) h g = elim (order j m) [
+    | less l ↦ let a = key-longer j m l (omega arith) in let b = key-next m (omega arith) in omega arith
+    | same e ↦ rw e (key-next m (omega arith))
+    | more l ↦ absurd (omega arith)
+  ]
+
+  pub key-le : (j m : ℕ) → j ≤ m → m ≤ length r → keyOf d (take j r) ≤ keyOf d (take m r)
+  key-le j m h g = elim (order j m) [
+    | less l ↦ let a = key-longer j m l g in omega arith
+    | same e ↦ rw e (omega arith)
+    | more l ↦ absurd (omega arith)
+  ]
+
+  pub key-most : (j : ℕ) → j ≤ length r → keyOf d (take j r) ≤ keyOf d r
+  key-most j h = rw (take-length r) at (key-le j (length r) h (omega arith))
 
 -- ---- the key of the next context
 
@@ -30,10 +51,10 @@ pub record Walk (d : ℕ) (r : List ℕ) (key weight j : ℕ) : Type 0 where
 pub walk-start : (d : ℕ) (r : List ℕ) → Walk d r (d * deskSpan) 262144 0
 walk-start d r = record { within = omega arith; key-is = λ h. omega (arith, digits-nil deepest); weight-is = λ h. refl }
 
-module _ (d : ℕ) (r : List ℕ) (n : ℕ) (l : List ℕ) (q : Askable d r n l) (key weight j : ℕ) (w : Walk d r key weight j) where
+module _ (d : ℕ) (r : List ℕ) (small : d < desks) (c : Within r) (key weight j : ℕ) (w : Walk d r key weight j) where
   next : j < length r → (key + (getD r j 0 * weight + 1) ≡ keyOf d (take (suc j) r)) × (weight / 8 ≡ 8 ^ (deepest - (j + 1)))
   next h =
-      let short = context-length mostSymbols deepest r (q .context) in
+      let short = context-length mostSymbols deepest r c in
       let e : deepest - j ≡ suc (5 - j) = omega arith in
       let f : deepest - (j + 1) ≡ 5 - j = omega arith in
       let g : weight ≡ 8 ^ suc (5 - j) = w .weight-is (omega arith) ∙ ap (λ (z : ℕ). 8 ^ z) e in
@@ -43,8 +64,8 @@ module _ (d : ℕ) (r : List ℕ) (n : ℕ) (l : List ℕ) (q : Askable d r n l)
   -- it fits
   pub walk-fits : j < length r → key + (getD r j 0 * weight + 1) < 2 ^ 32
   walk-fits h =
-      let less = contextKey-lt (take (suc j) r) (context-take mostSymbols deepest (suc j) r (q .context)) in
-      omega (arith, next h .0, less, q .desk)
+      let less = contextKey-lt (take (suc j) r) (context-take mostSymbols deepest (suc j) r c) in
+      omega (arith, next h .0, less, small)
 
   pub walk-on : (key′ : ℕ) → j ≤ length r → (j < length r → key′ ≡ key + (getD r j 0 * weight + 1)) → Walk d r key′ (weight / 8) (j + 1)
   walk-on key′ on e = record {
@@ -52,24 +73,3 @@ module _ (d : ℕ) (r : List ℕ) (n : ℕ) (l : List ℕ) (q : Askable d r n l)
     key-is = λ h. let inside : j < length r = omega arith in e inside ∙ next inside .0 ∙ ap (λ (z : ℕ). keyOf d (take z r)) (sym (add-one j));
     weight-is = λ h. next (omega arith) .1;
   }
-
--- ---- counting the missing
-
--- the contexts shorter than j have been looked for
-pub record Sought (d : ℕ) (r : List ℕ) (rs : List (List ℕ)) (count j : ℕ) : Type 0 where
-  pub most : count ≤ j
-  pub so-far : count ≡ sum j (lacks d r rs)
-
-pub sought-start : (d : ℕ) (r : List ℕ) (rs : List (List ℕ)) → Sought d r rs 0 0
-unfolding sum
-sought-start d r rs = record { most = omega arith; so-far = refl }
-
-pub sought-on : (d : ℕ) (r : List ℕ) (rs : List (List ℕ)) (count j key new : ℕ) → Sought d r rs count j → key ≡ keyOf d (take j r) → new ≡ one (not (held key rs))
-    → Sought d r rs (count + new) (j + 1)
-unfolding sum
-sought-on d r rs count j key new s e n =
-    let same : new ≡ lacks d r rs j = n ∙ ap (λ (k : ℕ). one (not (held k rs))) e in
-    record {
-      most = omega (arith, s .most, same, one-le (not (held (keyOf d (take j r)) rs)));
-      so-far = rw (add-one j) (ap₂ (λ (x y : ℕ). x + y) (s .so-far) same);
-    }

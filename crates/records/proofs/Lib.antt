@@ -13,6 +13,10 @@ pub mod Removing
 pub mod Feeding
 pub mod Growing
 pub mod KeyWalk
-pub mod FeedWalk
+pub mod Seeking
+pub mod Around
+pub mod Running
+pub mod Opening
+pub mod Raising
 pub mod Settling
 pub mod Examples

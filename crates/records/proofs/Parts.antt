@@ -91,6 +91,12 @@ module _ (w : ℕ) where
   unfolding parts
   one-part r e = ap (λ (x : List ℕ). x ∷ []) (take-all w r (omega arith))
 
+  -- a part r after the first p
+  pub parts-put : (p : ℕ) (r b l : List ℕ) → w * p ≤ length l → length r ≡ w → parts w (p + 1) (take (w * p) l ++ (r ++ b)) ≡ parts w p l ++ (r ∷ [])
+  parts-put p r b l h e =
+      parts-append p 1 (take (w * p) l) (r ++ b) (length-take-le (w * p) l h)
+      ∙ ap₂ (λ (x y : List (List ℕ)). x ++ y) (parts-of-take p (w * p) l (le-refl (w * p))) (parts-front 1 r b (omega arith) ∙ one-part r e)
+
   -- the parts and what stands past them are all there is
   pub same-numbers : (n : ℕ) (x y : List ℕ) → parts w n x ≡ parts w n y → drop (w * n) x ≡ drop (w * n) y → x ≡ y
   unfolding parts
@@ -103,25 +109,25 @@ module _ (w : ℕ) where
       sym (take-append-drop w x) ∙ ap₂ (λ (a b : List ℕ). a ++ b) head rest ∙ take-append-drop w y
 
 module _ (w n : ℕ) (l : List ℕ) (fits : w * n ≤ length l) where
-  -- a new part r at place p: the parts from p on, which are a, stand after it
-  pub parts-insert : (p : ℕ) (r a b : List ℕ) → p ≤ n → length r ≡ w → a ≡ take (w * (n - p)) (drop (w * p) l)
-      → parts w (n + 1) (take (w * p) l ++ (r ++ a ++ b)) ≡ take p (parts w n l) ++ (r ∷ drop p (parts w n l))
-  parts-insert p r a b h e q =
+  -- q new parts r at place p: the parts from p on, which are a, stand after them
+  pub parts-insert : (p q : ℕ) (r a b : List ℕ) → p ≤ n → length r ≡ w * q → a ≡ take (w * (n - p)) (drop (w * p) l)
+      → parts w (n + q) (take (w * p) l ++ (r ++ a ++ b)) ≡ take p (parts w n l) ++ (parts w q r ++ drop p (parts w n l))
+  parts-insert p q r a b h e f =
       let m = n - p in
       let front = take (w * p) l in
       let split : p + m ≡ n = omega arith in
-      let grown : n + 1 ≡ p + (1 + m) = omega arith in
+      let grown : n + q ≡ p + (q + m) = omega arith in
       let cut : w * p + w * m ≡ w * n = sym (mul-add w p m) ∙ ap (λ (k : ℕ). w * k) split in
-      let long : length a ≡ w * m = ap length q ∙ length-take-le (w * m) (drop (w * p) l) (rw (length-drop (w * p) l) (omega arith)) in
+      let long : length a ≡ w * m = ap length f ∙ length-take-le (w * m) (drop (w * p) l) (rw (length-drop (w * p) l) (omega arith)) in
       let first : parts w p front ≡ take p (parts w n l) = parts-of-take w p (w * p) l (le-refl (w * p)) ∙ sym (take-parts w p n l h) in
       let last : parts w m (a ++ b) ≡ drop p (parts w n l) =
-      parts-front w m a b (omega arith) ∙ ap (parts w m) q ∙ parts-of-take w m (w * m) (drop (w * p) l) (le-refl (w * m)) ∙ sym (drop-parts w p n l h) in
-      let new : parts w (1 + m) (r ++ a ++ b) ≡ r ∷ drop p (parts w n l) =
-      ap (parts w (1 + m)) (append-assoc r a b)
-      ∙ parts-append w 1 m r (a ++ b) (omega arith)
-      ∙ ap₂ (λ (x y : List (List ℕ)). x ++ y) (one-part w r e) last in
+      parts-front w m a b (omega arith) ∙ ap (parts w m) f ∙ parts-of-take w m (w * m) (drop (w * p) l) (le-refl (w * m)) ∙ sym (drop-parts w p n l h) in
+      let new : parts w (q + m) (r ++ a ++ b) ≡ parts w q r ++ drop p (parts w n l) =
+      ap (parts w (q + m)) (append-assoc r a b)
+      ∙ parts-append w q m r (a ++ b) e
+      ∙ ap (λ (y : List (List ℕ)). parts w q r ++ y) last in
       ap (λ (k : ℕ). parts w k (front ++ (r ++ a ++ b))) grown
-      ∙ parts-append w p (1 + m) front (r ++ a ++ b) (length-take-le (w * p) l (omega arith))
+      ∙ parts-append w p (q + m) front (r ++ a ++ b) (length-take-le (w * p) l (omega arith))
       ∙ ap₂ (λ (x y : List (List ℕ)). x ++ y) first new
 
   -- the parts from a to b are taken out: those from b on, which are y, stand in their place

@@ -119,6 +119,9 @@ rank-none k lo (x ∷ xs) h up = let first = rises-first lo x xs up in rw (le-lt
 pub length-keys : (n : ℕ) (l : List ℕ) → length (keys (records n l)) ≡ n
 length-keys n l = length-map (records n l) key ∙ length-parts width n l
 
+pub rank-within : (n : ℕ) (l : List ℕ) (k : ℕ) → rank k (keys (records n l)) ≤ n
+rank-within n l k = rw (length-keys n l) at (rank-length k (keys (records n l)))
+
 pub key-at : (n i : ℕ) (l : List ℕ) → i < n → key (getD (records n l) i []) ≡ getD l (width * i) 0
 key-at n i l h = cell-at width n i 0 l h (omega arith) ∙ ap (λ (k : ℕ). getD l k 0) (add-zero (width * i))
 

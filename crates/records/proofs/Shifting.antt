@@ -1,34 +1,19 @@
 -- What the two shifting loops and the writer of a new record hold half way, and a turn of each. Assumes nothing.
-use mathlib.Core.Path.{_≡_, sym, ap, _∙_, subst}
-use mathlib.Core.List.{List, [], _∷_, _++_, append-assoc, append-nil}
+use mathlib.Core.Path.{_≡_, sym, ap, ap₂, _∙_, subst}
+use mathlib.Core.List.{List, [], _∷_, _++_, append-nil}
 use Prim.Native.Nat.{ℕ, zero, suc, _+_, _-_, _≤_, _<_}
 use native.Mathlib.Nat.{not-suc-le-zero, le-of-suc-le-suc, add-comm}
 use native.Mathlib.Numerals.{add-one}
 use native.Mathlib.Omega.{arith}
-use lib.ListN.{length, take, drop, getD, set, replicate, getD-replicate, length-drop, drop-of-length-le, List·getD-append}
-use lib.Seq.{take-suc, drop-cons, set-at, getD-append-add, getD-take, getD-drop, length-take-le, append-snoc, take-length, take-all}
+use lib.ListN.{length, take, drop, getD, set, replicate, getD-replicate, length-drop, length-append, drop-of-length-le}
+use lib.Seq.{take-suc, drop-cons, set-at, getD-append-add, getD-drop, length-take-le, append-snoc, take-length, take-all, take-append-le, drop-append-le, take-take, take-add, drop-drop, drop-at}
+use Rattle.numbers.proofs.Lists.{drop-take}
 use Rattle.records.specs.Records.{width, blank}
 use Rattle.records.specs.Bumped.{raised}
 
 -- the numbers from i on have been moved up by gap
 abbrev pub up : ℕ → List ℕ → ℕ → List ℕ
 up gap l i = take i l ++ take (length l - i) (drop (i - gap) l)
-
--- a read below the place that the loop has come to
-pub up-read : (gap : ℕ) (l : List ℕ) (i k : ℕ) → i ≤ length l → k < i → getD (up gap l i) k 0 ≡ getD l k 0
-up-read gap l i k hi hk = List·getD-append (take i l) (take (length l - i) (drop (i - gap) l)) 0 k (rw (length-take-le i l hi) hk) ∙ getD-take i l k 0 hk
-
-pub up-step : (gap j : ℕ) (l : List ℕ) → gap ≤ j → j < length l → set (up gap l (suc j)) j (getD l (j - gap) 0) ≡ up gap l j
-up-step gap j l hg hj =
-    let moved = take (length l - suc j) (drop (suc j - gap) l) in
-    let back : suc (j - gap) ≡ suc j - gap = omega arith in
-    let more : suc (length l - suc j) ≡ length l - j = omega arith in
-    ap (λ (p : List ℕ). set (p ++ moved) j (getD l (j - gap) 0)) (take-suc l j 0 hj)
-    ∙ ap (λ (p : List ℕ). set p j (getD l (j - gap) 0)) (append-assoc (take j l) (getD l j 0 ∷ []) moved)
-    ∙ set-at (take j l) (getD l j 0) moved (getD l (j - gap) 0) j (length-take-le j l (omega arith))
-    ∙ ap (λ (p : ℕ). take j l ++ (getD l (j - gap) 0 ∷ take (length l - suc j) (drop p l))) (sym back)
-    ∙ ap (λ (p : List ℕ). take j l ++ take (suc (length l - suc j)) p) (sym (drop-cons l (j - gap) 0 (omega arith)))
-    ∙ ap (λ (p : ℕ). take j l ++ take p (drop (j - gap) l)) more
 
 pub up-start : (gap : ℕ) (l : List ℕ) → l ≡ up gap l (length l)
 up-start gap l =
@@ -39,6 +24,11 @@ pub up-end : (gap : ℕ) (l : List ℕ) → up gap l gap ≡ take gap l ++ take 
 up-end gap l =
     let none : gap - gap ≡ 0 = omega arith in
     rw none
+
+pub up-long : (gap i : ℕ) (l : List ℕ) → gap ≤ i → i ≤ length l → length (up gap l i) ≡ length l
+up-long gap i l h g =
+    let rest : length l - i ≤ length (drop (i - gap) l) = rw (length-drop (i - gap) l) (omega arith) in
+    omega (arith, length-append (take i l) (take (length l - i) (drop (i - gap) l)), length-take-le i l g, length-take-le (length l - i) (drop (i - gap) l) rest)
 
 -- the first j numbers have been moved down by gap
 abbrev pub down : ℕ → List ℕ → ℕ → List ℕ
@@ -68,13 +58,36 @@ down-end gap l h =
     let whole : length (drop gap l) ≤ length l - gap = rw (length-drop gap l) (omega arith) in
     ap (λ (q : List ℕ). q ++ drop (length l - gap) l) (take-all (length l - gap) (drop gap l) whole)
 
+-- eight numbers are read before the place that the loop has come to, and written there
+up-eight : (gap j k m : ℕ) (l s moved : List ℕ) → k + gap ≡ j → j + 8 + m ≡ length l → s ≡ take (j + 8) l ++ take m (drop (k + 8) l) → moved ≡ take 8 (drop k s)
+    → take j s ++ (moved ++ drop 8 (drop j s)) ≡ take j l ++ take (8 + m) (drop k l)
+up-eight gap j k m l s moved hk hm e q =
+    let above = take m (drop (k + 8) l) in
+    let long : length (take (j + 8) l) ≡ j + 8 = length-take-le (j + 8) l (omega arith) in
+    let read : moved ≡ take 8 (drop k l) =
+    q ∙ ap (λ (t : List ℕ). take 8 (drop k t)) e
+    ∙ ap (take 8) (drop-append-le k (take (j + 8) l) above (omega arith))
+    ∙ take-append-le 8 (drop k (take (j + 8) l)) above (rw (length-drop k (take (j + 8) l), long) (omega arith))
+    ∙ ap (take 8) (drop-take k (j + 8) l)
+    ∙ take-take 8 (j + 8 - k) (drop k l) (omega arith) in
+    let front : take j s ≡ take j l = ap (take j) e ∙ take-append-le j (take (j + 8) l) above (omega arith) ∙ take-take j (j + 8) l (omega arith) in
+    let rest : drop 8 (drop j s) ≡ above = drop-drop 8 j s ∙ ap (drop (j + 8)) e ∙ drop-at (take (j + 8) l) above (j + 8) long in
+    let joined : take 8 (drop k l) ++ above ≡ take (8 + m) (drop k l) =
+    ap (λ (t : List ℕ). take 8 (drop k l) ++ take m t) (sym (drop-drop 8 k l)) ∙ sym (take-add 8 m (drop k l)) in
+    ap₂ (λ (x y : List ℕ). x ++ y) front (ap₂ (λ (x y : List ℕ). x ++ y) read rest ∙ joined)
+
 -- a turn of each loop, as the code has it
-pub up-turn : (gap i : ℕ) (l s : List ℕ) → gap < i → i ≤ length l → s ≡ up gap l i → set s (i - 1) (getD s (i - 1 - gap) 0) ≡ up gap l (i - 1)
-up-turn gap zero l s hg hi e = absurd (not-suc-le-zero hg)
-up-turn gap (suc j) l s hg hi e =
-    let less : suc j - 1 ≡ j = omega arith in
-    let read : getD (up gap l (suc j)) (j - gap) 0 ≡ getD l (j - gap) 0 = up-read gap l (suc j) (j - gap) hi (omega arith) in
-    rw (e, less, read) (up-step gap j l (omega arith) hi)
+pub up-turn : (gap i : ℕ) (l s moved : List ℕ) → gap + 8 ≤ i → i ≤ length l → s ≡ up gap l i → moved ≡ take 8 (drop (i - 8 - gap) s)
+    → take (i - 8) s ++ (moved ++ drop (i - (i - 8)) (drop (i - 8) s)) ≡ up gap l (i - 8)
+up-turn gap i l s moved hg hi e q =
+    let a : i ≡ i - 8 + 8 = omega arith in
+    let b : i - gap ≡ i - 8 - gap + 8 = omega arith in
+    let c : i - (i - 8) ≡ 8 = omega arith in
+    let d : 8 + (length l - i) ≡ length l - (i - 8) = omega arith in
+    ap (λ (x : ℕ). take (i - 8) s ++ (moved ++ drop x (drop (i - 8) s))) c
+    ∙ up-eight gap (i - 8) (i - 8 - gap) (length l - i) l s moved (omega arith) (omega arith)
+    (e ∙ ap₂ (λ (x y : ℕ). take x l ++ take (length l - i) (drop y l)) a b) q
+    ∙ ap (λ (x : ℕ). take (i - 8) l ++ take x (drop (i - 8 - gap) l)) d
 
 pub down-turn : (gap j : ℕ) (l s : List ℕ) → j < length l - gap → s ≡ down gap l j → set s j (getD s (j + gap) 0) ≡ down gap l (j + 1)
 down-turn gap j l s h e =

@@ -1,15 +1,12 @@
 -- One more count under a key, and what a function that writes records promises of the numbers. Assumes nothing.
 use mathlib.Core.Path.{_≡_}
-use mathlib.Core.Bool.{cond, not}
+use mathlib.Core.Bool.{cond}
 use mathlib.Core.List.{List, [], _∷_}
 use Prim.Native.Nat.{ℕ, _+_, _*_, _≤_, _<_}
-use lib.ListN.{length, drop, getD, set}
+use lib.ListN.{drop, getD, set}
 use lib.Dec.{ltb, eqb}
-use Rattle.numbers.specs.Limits.{longest}
-use Rattle.numbers.specs.Sum.{one}
 use Rattle.contexts.specs.Sitting.{Sample}
-use Rattle.records.specs.Records.{width, records, key, startOf, blank, lookup}
-use Rattle.records.specs.Held.{held, Rising}
+use Rattle.records.specs.Records.{width, records, key, startOf, blank}
 
 -- where the count of symbol a in sample i stands in a record
 abbrev pub cellOf : Sample → ℕ → ℕ
@@ -38,10 +35,3 @@ pub record Written (rs : List (List ℕ)) (m : ℕ) (before after : List ℕ) : 
 pub record Cell (c : ℕ) : Type 0 where
   pub after-key : 1 ≤ c
   pub inside : c < width
-
--- what a bump asks: rising keys, room for a record more where no record has the key, and a count that has not run full
-pub record Bumpable (k c n : ℕ) (l : List ℕ) : Type 0 where
-  pub fits : width * (n + one (not (held k (records n l)))) ≤ length l
-  pub rising : Rising (records n l)
-  pub cell : Cell c
-  pub small : getD (lookup k (records n l)) c 0 ≤ longest

@@ -1,6 +1,6 @@
 -- What a fed symbol does to the records: every context that it follows gets one more count. Assumes nothing.
 use mathlib.Core.Bool.{not}
-use mathlib.Core.List.{List}
+use mathlib.Core.List.{List, [], _∷_, _++_}
 use Prim.Native.Nat.{ℕ, zero, suc, _+_, _*_, _≤_, _<_}
 use lib.ListN.{length, take}
 use lib.Dec.{T}
@@ -9,9 +9,9 @@ use Rattle.numbers.specs.Sum.{one, sum}
 use Rattle.contexts.specs.Context.{isContext}
 use Rattle.contexts.specs.Keys.{keyOf}
 use Rattle.contexts.specs.Sitting.{Sample, sampleOf}
-use Rattle.records.specs.Records.{width, records}
+use Rattle.records.specs.Records.{width, records, blank}
 use Rattle.records.specs.Held.{held, countAt, Standing}
-use Rattle.records.specs.Bumped.{bumped}
+use Rattle.records.specs.Bumped.{raised, bumped}
 
 -- one more of symbol a in sample i for the first j of the contexts take 0 recent, take 1 recent, .. of desk d
 unfoldable pub fedTo : ℕ → ℕ → Sample → ℕ → List ℕ → List (List ℕ) → List (List ℕ)
@@ -22,11 +22,16 @@ fedTo (suc j) d i a recent rs = bumped (keyOf d (take j recent)) i a (fedTo j d 
 abbrev pub fed : ℕ → Sample → ℕ → List ℕ → List (List ℕ) → List (List ℕ)
 fed d i a recent = fedTo (suc (length recent)) d i a recent
 
+-- q new records: those of its contexts of length m, m + 1, .., each with one count at cell c
+unfoldable pub fresh : ℕ → ℕ → ℕ → List ℕ → ℕ → List (List ℕ)
+fresh zero m d recent c = []
+fresh (suc q) m d recent c = fresh q m d recent c ++ (raised c (blank (keyOf d (take (m + q) recent))) ∷ [])
+
 -- how many of these contexts no record has yet
 abbrev pub missing : ℕ → List ℕ → List (List ℕ) → ℕ
 missing d recent rs = sum (suc (length recent)) (λ j. one (not (held (keyOf d (take j recent)) rs)))
 
--- what counting the missing contexts asks: n records in rising order, a desk, and recent symbols within the limits
+-- what looking for its contexts asks: n records in rising order, a desk, and recent symbols within the limits
 pub record Askable (d : ℕ) (recent : List ℕ) (n : ℕ) (l : List ℕ) : Type 0 where
   pub standing : Standing n l
   pub desk : d < desks

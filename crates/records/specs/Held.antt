@@ -69,3 +69,15 @@ pub record Removable (d n : ℕ) (l : List ℕ) : Type 0 where
 pub record Placed (k n r : ℕ) (l : List ℕ) : Type 0 where
   pub at : r ≡ rank k (keys (records n l))
   pub within : r ≤ n
+
+-- a key's place among the first n records is from low to high
+pub record Bounded (k n low high : ℕ) (l : List ℕ) : Type 0 where
+  pub standing : Standing n l
+  pub from-low : low ≤ rank k (keys (records n l))
+  pub to-high : rank k (keys (records n l)) ≤ high
+  pub inside : high ≤ n
+
+-- .. and no earlier than a place
+pub record Onward (k n from : ℕ) (l : List ℕ) : Type 0 where
+  pub standing : Standing n l
+  pub no-later : from ≤ rank k (keys (records n l))

@@ -1,10 +1,11 @@
 -- `feeding::feed_judged` meets its contract: refusal 10, or the store fed. Assumes nothing.
 use Prim.Native.Nat.{_+_}
 use native.Mathlib.Omega.{arith}
-use mathlib.Core.Path.{sym}
+use mathlib.Core.Path.{_≡_, refl, sym}
+use lib.ListN.{length, take, replicate}
 use lib.Seq.{length-take-le}
 use borrow.Author.Needs.{needs}
-use Rattle.feeding.proofs.Answering.{Copied, field-asked, six-asked, copied, then-asks, refused-past, write-asks, fed-moves}
+use Rattle.feeding.proofs.Answering.{Copied, field-asked, six-asked, copied, seek-asks, found, refused-past, write-asks, fed-moves}
 use Rattle.feeding.proofs.feed_judged.Statement.{statement}
 use Rattle.feeding.proofs.feed_judged.Tie as tie
 
@@ -17,6 +18,9 @@ recent c =
     copied (x .store .now) (x .desk) (x .sample) (x .symbol) (start .pre) (c .before .before .before .before .before .field-at .result) (c .before .before .before .field-at2 .result)
     (c .before .before .fewer .result) (c .six-from .result) (c .before .before .before .before .before .field-at .ensures) (c .before .before .before .field-at2 .ensures)
     (c .before .before .fewer .ensures) (c .six-from .ensures)
+
+lent-long : (c : tie.After-six-from) → c .before .before .fewer .result ≡ length (take (c .before .before .fewer .result) (c .six-from .result))
+lent-long c = sym (length-take-le (c .before .before .fewer .result) (c .six-from .result) (recent c .fits))
 
 add-field-at : tie.Need-add-field-at
 add-field-at c = search needs
@@ -60,71 +64,87 @@ six-from-requires c κs =
     let x = start .args in
     six-asked (x .store .now) (x .desk) (x .sample) (x .symbol) (start .pre)
 
-field-at-requires-3 : tie.Need-field-at-requires-3
-field-at-requires-3 c κs =
-    let start = c .before .before .before .before .before .before .before .before .before in
-    let x = start .args in
-    field-asked (x .store .now) (x .desk) (x .sample) (x .symbol) (start .pre) 3 (omega arith)
-
-cast-reserve : tie.Need-cast-reserve
-cast-reserve c = search needs
-
 array-share-prefix-slots : tie.Need-array-share-prefix-slots
-array-share-prefix-slots c = recent (c .before .before .before) .fits
+array-share-prefix-slots c = recent (c .before) .fits
 
-slice-aggregate-held-then : tie.Need-slice-aggregate-held-then
-slice-aggregate-held-then c =
-    let six = c .before .before .before .before in
-    sym (length-take-le (six .before .before .fewer .result) (six .six-from .result) (recent six .fits))
+slice-aggregate-seek-in : tie.Need-slice-aggregate-seek-in
+slice-aggregate-seek-in c = lent-long (c .before .before)
 
-held-then-requires : tie.Need-held-then-requires
-held-then-requires c κs =
-    let start = c .before .before .before .before .before .before .before .before .before .before .before .before in
+slice-aggregate-seek-in-2 : tie.Need-slice-aggregate-seek-in-2
+slice-aggregate-seek-in-2 c = search needs
+
+seek-in-requires : tie.Need-seek-in-requires
+seek-in-requires c κs =
+    let six = c .before .before .before in
+    let start = six .before .before .before .before .before .before .before .before in
     let x = start .args in
-    let six = c .before .before .before .before in
-    then-asks (x .store .now) (x .desk) (x .sample) (x .symbol) (start .pre) (six .before .before .fewer .result) (six .six-from .result) (recent six)
+    seek-asks (x .store .now) (x .desk) (x .sample) (x .symbol) (start .pre) (six .before .before .fewer .result) (six .six-from .result) (recent six) (replicate 7 0) refl
+
+array-share-prefix-slots-2 : tie.Need-array-share-prefix-slots-2
+array-share-prefix-slots-2 c = recent (c .before .before .before .before .before .before) .fits
+
+slice-aggregate-is-past : tie.Need-slice-aggregate-is-past
+slice-aggregate-is-past c = lent-long (c .before .before .before .before .before .before .before)
+
+slice-aggregate-is-past-2 : tie.Need-slice-aggregate-is-past-2
+slice-aggregate-is-past-2 c = search needs
+
+is-past-requires : tie.Need-is-past-requires
+is-past-requires c κs =
+    let sought = c .before .before .before .before in
+    let six = sought .before .before .before .before in
+    let start = six .before .before .before .before .before .before .before .before in
+    let x = start .args in
+    found (x .store .now) (x .desk) (x .sample) (x .symbol) (start .pre) (six .before .before .fewer .result) (six .six-from .result) (recent six)
+    (sought .seek-in .result) (sought .seek-in .last .1 .1 .1 .0) (sought .seek-in .ensures)
 
 same-length : tie.Need-same-length
 same-length c = search needs
 
 returns : tie.Need-returns
 returns c =
-    let start = c .before .before .before .before .before .before .before .before .before .before .before .before .before .before in
+    let past = c .before in
+    let sought = past .before .before .before .before .before in
+    let six = sought .before .before .before .before in
+    let start = six .before .before .before .before .before .before .before .before in
     let x = start .args in
-    let six = c .before .before .before .before .before .before in
-    let reserve = c .before .before .before .before .field-at3 in
-    let held = c .before .held-then in
-    refused-past (x .store .now) (x .desk) (x .sample) (x .symbol) (start .pre) (six .before .before .fewer .result) (six .six-from .result) (recent six) (reserve .result) (held .result) (reserve .ensures) (held .ensures) (c .if1 .taken)
+    refused-past (x .store .now) (x .desk) (x .sample) (x .symbol) (start .pre) (six .before .before .fewer .result) (six .six-from .result) (recent six)
+    (sought .seek-in .result) (sought .seek-in .last .1 .1 .1 .0) (sought .seek-in .ensures) (past .is-past .result) (past .is-past .ensures) (c .if1 .taken)
 
-array-share-prefix-slots-2 : tie.Need-array-share-prefix-slots-2
-array-share-prefix-slots-2 c = recent (c .before .before .before .before .before .before .before) .fits
+array-share-prefix-slots-3 : tie.Need-array-share-prefix-slots-3
+array-share-prefix-slots-3 c = recent (c .before .before .before .before .before .before .before .before .before .before .before) .fits
 
 slice-aggregate-write-feed : tie.Need-slice-aggregate-write-feed
-slice-aggregate-write-feed c =
-    let six = c .before .before .before .before .before .before .before .before in
-    sym (length-take-le (six .before .before .fewer .result) (six .six-from .result) (recent six .fits))
+slice-aggregate-write-feed c = lent-long (c .before .before .before .before .before .before .before .before .before .before .before .before)
+
+slice-aggregate-write-feed-2 : tie.Need-slice-aggregate-write-feed-2
+slice-aggregate-write-feed-2 c = search needs
 
 write-feed-requires : tie.Need-write-feed-requires
 write-feed-requires c κs =
-    let start = c .before .before .before .before .before .before .before .before .before .before .before .before .before .before .before .before in
+    let else = c .before .before .before in
+    let past = else .before in
+    let sought = past .before .before .before .before .before in
+    let six = sought .before .before .before .before in
+    let start = six .before .before .before .before .before .before .before .before in
     let x = start .args in
-    let six = c .before .before .before .before .before .before .before .before in
-    let reserve = c .before .before .before .before .before .before .field-at3 in
-    let held = c .before .before .before .held-then in
-    write-asks (x .store .now) (x .desk) (x .sample) (x .symbol) (start .pre) (six .before .before .fewer .result) (six .six-from .result) (recent six) (reserve .result) (held .result) (reserve .ensures) (held .ensures) (c .before .before .if1 .left)
+    write-asks (x .store .now) (x .desk) (x .sample) (x .symbol) (start .pre) (six .before .before .fewer .result) (six .six-from .result) (recent six)
+    (sought .seek-in .result) (sought .seek-in .last .1 .1 .1 .0) (sought .seek-in .ensures) (past .is-past .result) (past .is-past .ensures) (else .if1 .left)
 
 same-length-2 : tie.Need-same-length-2
 same-length-2 c = search needs
 
 returns-2 : tie.Need-returns-2
 returns-2 c =
-    let start = c .before .before .before .before .before .before .before .before .before .before .before .before .before .before .before .before .before .before .before in
+    let else = c .before .before .before .before .before .before in
+    let past = else .before in
+    let sought = past .before .before .before .before .before in
+    let six = sought .before .before .before .before in
+    let start = six .before .before .before .before .before .before .before .before in
     let x = start .args in
-    let six = c .before .before .before .before .before .before .before .before .before .before .before in
-    let reserve = c .before .before .before .before .before .before .before .before .before .field-at3 in
-    let held = c .before .before .before .before .before .before .held-then in
     let wrote = c .before .before .write-feed in
-    fed-moves (x .store .now) (x .desk) (x .sample) (x .symbol) (start .pre) (six .before .before .fewer .result) (six .six-from .result) (recent six) (reserve .result) (held .result) (reserve .ensures) (held .ensures) (c .before .before .before .before .before .if1 .left) (wrote .last .0) (wrote .ensures)
+    fed-moves (x .store .now) (x .desk) (x .sample) (x .symbol) (start .pre) (six .before .before .fewer .result) (six .six-from .result) (recent six)
+    (sought .seek-in .result) (sought .seek-in .last .1 .1 .1 .0) (sought .seek-in .ensures) (past .is-past .result) (past .is-past .ensures) (else .if1 .left) (wrote .last .0) (wrote .ensures)
 
 pub feed-judged-spec : {M : Type 1} → statement M
 feed-judged-spec =
@@ -141,15 +161,19 @@ feed-judged-spec =
     add-six-from-2
     add-six-from-3
     six-from-requires
-    field-at-requires-3
-    cast-reserve
     array-share-prefix-slots
-    slice-aggregate-held-then
-    held-then-requires
+    slice-aggregate-seek-in
+    slice-aggregate-seek-in-2
+    seek-in-requires
+    array-share-prefix-slots-2
+    slice-aggregate-is-past
+    slice-aggregate-is-past-2
+    is-past-requires
     same-length
     returns
-    array-share-prefix-slots-2
+    array-share-prefix-slots-3
     slice-aggregate-write-feed
+    slice-aggregate-write-feed-2
     write-feed-requires
     same-length-2
     returns-2)

@@ -2,36 +2,36 @@
 use native.Mathlib.Omega.{arith}
 use borrow.Author.Needs.{needs}
 use Rattle.store.proofs.Standing.{sound-stands}
-use Rattle.feeding.proofs.Writing.{lent-feedable, count-fits, note-asks, written}
+use Rattle.feeding.proofs.Writing.{lent-ready, count-fits, note-asks, written}
 use Rattle.feeding.proofs.write_feed.Statement.{statement}
 use Rattle.feeding.proofs.write_feed.Tie as tie
 
 slice-read-many : tie.Need-slice-read-many
 slice-read-many c =
-    let start = c .before .before .before in
+    let start = c .before .before .before .before in
     omega (arith, sound-stands (start .args .store .now) (start .pre .0 .sound) .long)
 
 cast-many : tie.Need-cast-many
 cast-many c = omega (arith, c .slice-known2 .given 1)
 
-sub-feed-records : tie.Need-sub-feed-records
-sub-feed-records c =
-    let start = c .before .before .before in
+sub-body : tie.Need-sub-body
+sub-body c =
+    let start = c .before .before .before .before in
     omega (arith, sound-stands (start .args .store .now) (start .pre .0 .sound) .long)
 
-part-feed-records-start : tie.Need-part-feed-records-start
-part-feed-records-start c =
-    let start = c .before .before .before in
+part-body-start : tie.Need-part-body-start
+part-body-start c =
+    let start = c .before .before .before .before in
     omega (arith, sound-stands (start .args .store .now) (start .pre .0 .sound) .long)
 
-part-feed-records-end : tie.Need-part-feed-records-end
-part-feed-records-end c = search needs
+part-body-end : tie.Need-part-body-end
+part-body-end c = search needs
 
 feed-records-requires : tie.Need-feed-records-requires
 feed-records-requires c κs =
-    let start = c .before .before .before .before in
+    let start = c .before .before .before .before .before in
     let x = start .args in
-    lent-feedable (x .store .now) (x .desk) (x .sample) (x .symbol) (start .pre .0) (start .pre .1) (x .recent .now) (start .pre .2)
+    lent-ready (x .store .now) (x .desk) (x .sample) (x .symbol) (start .pre .0) (start .pre .1) (x .recent .now) (start .pre .2) (x .found) (x .places .now) (start .pre .3)
 
 mul-start : tie.Need-mul-start
 mul-start c = search needs
@@ -56,14 +56,14 @@ add-slots-2 c = search needs
 
 cast-note : tie.Need-cast-note
 cast-note c =
-    let start = c .before .before .before .before .before .before .before .before in
+    let start = c .before .before .before .before .before .before .before .before .before in
     let x = start .args in
     let fed = c .before .before .before .feed-records in
     omega (arith, count-fits (x .store .now) (x .desk) (x .sample) (x .symbol) (start .pre .0) (start .pre .1) (x .recent .now) (start .pre .2) (fed .result) (fed .last .0) (search needs) (fed .ensures))
 
 note-requires : tie.Need-note-requires
 note-requires c κs =
-    let start = c .before .before .before .before .before .before .before .before in
+    let start = c .before .before .before .before .before .before .before .before .before in
     let x = start .args in
     let fed = c .before .before .before .feed-records in
     note-asks (x .store .now) (x .desk) (x .sample) (x .symbol) (start .pre .0) (start .pre .1) (x .recent .now) (start .pre .2) (fed .result) (fed .last .0) (search needs) (fed .ensures)
@@ -73,7 +73,7 @@ same-length c = search needs
 
 returns : tie.Need-returns
 returns c =
-    let start = c .before .before .before .before .before .before .before .before .before .before .before in
+    let start = c .before .before .before .before .before .before .before .before .before .before .before .before in
     let x = start .args in
     let fed = c .before .before .before .before .before .before .feed-records in
     let noted = c .before .before .note in
@@ -85,9 +85,9 @@ write-feed-spec =
     (tie.spec
     slice-read-many
     cast-many
-    sub-feed-records
-    part-feed-records-start
-    part-feed-records-end
+    sub-body
+    part-body-start
+    part-body-end
     feed-records-requires
     mul-start
     add-start

@@ -1,0 +1,101 @@
+-- `feeding::is_past` meets its contract: refusal 10. Assumes nothing.
+use native.Mathlib.Omega.{arith}
+use Rattle.store.proofs.Standing.{sound-stands}
+use Rattle.feeding.proofs.Asking.{none-past, spanned, sum-small, past-is}
+use borrow.Author.Needs.{needs}
+use Rattle.feeding.proofs.is_past.Statement.{statement}
+use Rattle.feeding.proofs.is_past.Tie as tie
+
+returns : tie.Need-returns
+returns c =
+    let start = c .before .before .before .before in
+    let x = start .args in
+    none-past (x .store .now) (x .desk) (x .recent .now) (x .found) (x .places .now) (start .pre) (c .if1 .taken)
+
+add-more : tie.Need-add-more
+add-more c = search needs
+
+sub-more : tie.Need-sub-more
+sub-more c = search needs
+
+shared-slice-read-many : tie.Need-shared-slice-read-many
+shared-slice-read-many c =
+    let start = c .before .before .before .before .before in
+    omega (arith, sound-stands (start .args .store .now) (start .pre .sound) .long)
+
+cast-many : tie.Need-cast-many
+cast-many c = omega (arith, c .shared-slice-known4 .given 1)
+
+sub-held-by : tie.Need-sub-held-by
+sub-held-by c =
+    let start = c .before .before .before .before .before in
+    omega (arith, sound-stands (start .args .store .now) (start .pre .sound) .long)
+
+part-held-by-start : tie.Need-part-held-by-start
+part-held-by-start c =
+    let start = c .before .before .before .before .before in
+    omega (arith, sound-stands (start .args .store .now) (start .pre .sound) .long)
+
+part-held-by-end : tie.Need-part-held-by-end
+part-held-by-end c = search needs
+
+shared-slice-read-held-by : tie.Need-shared-slice-read-held-by
+shared-slice-read-held-by c =
+    let start = c .before .before .before .before .before .before .before in
+    omega (arith, start .pre .located .room)
+
+mul-held-by : tie.Need-mul-held-by
+mul-held-by c = search needs
+
+shared-slice-read-held-by-2 : tie.Need-shared-slice-read-held-by-2
+shared-slice-read-held-by-2 c =
+    let start = c .before .before .before .before .before .before .before .before in
+    omega (arith, start .pre .located .room)
+
+held-by-requires : tie.Need-held-by-requires
+held-by-requires c κs =
+    let start = c .before .before .before .before .before .before .before .before in
+    let x = start .args in
+    spanned (x .store .now) (x .desk) (x .recent .now) (x .found) (x .places .now) (start .pre) (c .before .before .before .before .if1 .left)
+
+field-at-requires : tie.Need-field-at-requires
+field-at-requires c κs =
+    let start = c .before .before .before .before .before .before .before .before .before in
+    let x = start .args in
+    (omega (arith, sound-stands (x .store .now) (start .pre .sound) .long), start .pre .at-open .desk, omega arith)
+
+cast-reserve : tie.Need-cast-reserve
+cast-reserve c = search needs
+
+add-result : tie.Need-add-result
+add-result c =
+    let start = c .before .before .before .before .before .before .before .before .before .before in
+    let x = start .args in
+    omega (arith, sum-small (x .store .now) (x .desk) (x .recent .now) (x .found) (x .places .now) (start .pre) (c .before .before .before .before .before .before .if1 .left) (c .before .held-by .result) (c .field-at .result) (c .before .held-by .ensures) (c .field-at .ensures))
+
+returns-2 : tie.Need-returns-2
+returns-2 c =
+    let start = c .before .before .before .before .before .before .before .before .before .before in
+    let x = start .args in
+    past-is (x .store .now) (x .desk) (x .recent .now) (x .found) (x .places .now) (start .pre) (c .before .before .before .before .before .before .if1 .left) (c .before .held-by .result) (c .field-at .result) (c .before .held-by .ensures) (c .field-at .ensures)
+
+pub is-past-spec : {M : Type 1} → statement M
+is-past-spec =
+    tie.close
+    (tie.spec
+    returns
+    add-more
+    sub-more
+    shared-slice-read-many
+    cast-many
+    sub-held-by
+    part-held-by-start
+    part-held-by-end
+    shared-slice-read-held-by
+    mul-held-by
+    shared-slice-read-held-by-2
+    held-by-requires
+    field-at-requires
+    cast-reserve
+    add-result
+    returns-2)

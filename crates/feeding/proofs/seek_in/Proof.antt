@@ -1,0 +1,56 @@
+-- `feeding::seek_in` meets its contract. Assumes nothing.
+use native.Mathlib.Omega.{arith}
+use Rattle.store.proofs.Standing.{sound-stands}
+use Rattle.feeding.proofs.Asking.{lent-askable, located-in}
+use borrow.Author.Needs.{needs}
+use Rattle.feeding.proofs.seek_in.Statement.{statement}
+use Rattle.feeding.proofs.seek_in.Tie as tie
+
+shared-slice-read-many : tie.Need-shared-slice-read-many
+shared-slice-read-many c =
+    let start = c .before .before .before .before in
+    omega (arith, sound-stands (start .args .store .now) (start .pre .0) .long)
+
+cast-many : tie.Need-cast-many
+cast-many c = omega (arith, c .shared-slice-known3 .given 1)
+
+sub-seek : tie.Need-sub-seek
+sub-seek c =
+    let start = c .before .before .before .before in
+    omega (arith, sound-stands (start .args .store .now) (start .pre .0) .long)
+
+part-seek-start : tie.Need-part-seek-start
+part-seek-start c =
+    let start = c .before .before .before .before in
+    omega (arith, sound-stands (start .args .store .now) (start .pre .0) .long)
+
+part-seek-end : tie.Need-part-seek-end
+part-seek-end c = search needs
+
+seek-requires : tie.Need-seek-requires
+seek-requires c κs =
+    let start = c .before .before .before .before .before .before in
+    let x = start .args in
+    (lent-askable (x .store .now) (x .desk) (x .recent .now) (start .pre .1), start .pre .2)
+
+same-length : tie.Need-same-length
+same-length c = search needs
+
+returns : tie.Need-returns
+returns c =
+    let x = c .before .before .before .before .before .before .before .before .before .args in
+    let sought = c .before .before .seek in
+    located-in (x .store .now) (x .desk) (x .recent .now) (sought .result) (sought .last .1 .1 .1 .1 .0) (sought .ensures)
+
+pub seek-in-spec : {M : Type 1} → statement M
+seek-in-spec =
+    tie.close
+    (tie.spec
+    shared-slice-read-many
+    cast-many
+    sub-seek
+    part-seek-start
+    part-seek-end
+    seek-requires
+    same-length
+    returns)
