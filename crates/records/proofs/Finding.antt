@@ -5,11 +5,11 @@ use mathlib.Core.List.{List, [], _∷_}
 use Prim.Native.Nat.{ℕ, zero, suc, _*_, _≤_, _<_, suc-le-suc}
 use native.Mathlib.Nat.{not-suc-le-zero, le-of-suc-le-suc}
 use native.Mathlib.Omega.{arith}
-use borrow.Author.Tests.{ltb-true, ltb-false, lt-ltb, le-ltb, eqb-true, eqb-false, eq-eqb, ne-eqb}
+use borrow.Author.Tests.{ltb-true, ltb-false, eqb-true, eqb-false, eq-eqb, ne-eqb}
 use lib.Dec.{T, ltb, eqb, eqb→eq}
 use lib.ListN.{length, getD}
 use Rattle.numbers.proofs.Tests.{is-true, choose, or-left, or-right}
-use Rattle.numbers.proofs.Orders.{less, same, more, order, eq→eqb}
+use Rattle.numbers.proofs.Orders.{eq→eqb}
 use Rattle.records.specs.Records.{width, records, key, keys, rises, blank, lookup}
 use Rattle.records.specs.Held.{rank, held, Rising}
 use Rattle.records.proofs.Parts.{length-parts}
@@ -131,22 +131,6 @@ held-missed k lo (r ∷ rs) (suc p) up e m =
     let at = rank-suc k (key r) (keys rs) p e in
     rw (ne-eqb (key r) k (λ q. omega arith)) (held-missed k (suc (key r)) rs p (rises-rest lo (key r) (keys rs) up) (at .1) (λ h. m (suc-le-suc h)))
 
--- .. and where the key is held, the record there has it
-pub held-rank : (k lo : ℕ) (rs : List (List ℕ)) → T (rises lo (keys rs)) → held k rs ≡ true → (rank k (keys rs) < length rs) × (key (getD rs (rank k (keys rs)) []) ≡ k)
-unfolding held rank
-held-rank k lo [] up e = absurd (subst T (sym e) tt)
-held-rank k lo (r ∷ rs) up e =
-    let rest = rises-rest lo (key r) (keys rs) up in
-    elim (order (key r) k) [
-      | less h ↦
-          let there = held-rank k (suc (key r)) rs rest (rw (ne-eqb (key r) k (λ q. omega arith)) at e) in
-          rw (lt-ltb (key r) k h) (suc-le-suc (there .0), there .1)
-      | same q ↦ rw (le-ltb (key r) k (omega arith)) (omega arith, q)
-      | more h ↦
-          let none = held-none k (suc (key r)) rs rest (omega arith) in
-          absurd (subst T (sym (rw (ne-eqb (key r) k (λ q. omega arith), none) at e)) tt)
-    ]
-
 -- ---- the same of the first n records, as the code tests it
 
 module _ (k n p : ℕ) (l : List ℕ) where
@@ -173,10 +157,3 @@ module _ (k n p : ℕ) (l : List ℕ) where
       go : (t : Bool) → eqb (getD l (width * p) 0) k ≡ t → t ≡ held k (records n l)
       go true e = sym (held-found h (eqb-true (getD l (width * p) 0) k e))
       go false e = sym (held-lost up at (λ _. eqb-false (getD l (width * p) 0) k e))
-
-  -- where the key is held, it stands at its rank
-  pub found-at : Rising (records n l) → p ≡ rank k (keys (records n l)) → held k (records n l) ≡ true → (p < n) × (getD l (width * p) 0 ≡ k)
-  found-at up at h =
-      let there = held-rank k 0 (records n l) up h in
-      let inside : p < n = omega (arith, there .0, length-parts width n l) in
-      (inside, sym (key-at n p l inside) ∙ ap (λ (x : ℕ). key (getD (records n l) x [])) at ∙ there .1)

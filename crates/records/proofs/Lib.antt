@@ -14,6 +14,7 @@ pub mod Feeding
 pub mod Growing
 pub mod KeyWalk
 pub mod Seeking
+pub mod Around
 pub mod Running
 pub mod Opening
 pub mod Raising

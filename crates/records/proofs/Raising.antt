@@ -21,11 +21,12 @@ use Rattle.records.specs.Fed.{fedTo, fed, fresh, missing}
 use Rattle.records.specs.Located.{Ready, Insertable, Inserted}
 use Rattle.records.proofs.Lent.{agree-later}
 use Rattle.records.proofs.Rising.{rank-within}
-use Rattle.records.proofs.Finding.{found-at}
+use Rattle.records.proofs.Seeking.{found-at}
 use Rattle.records.proofs.Counting.{count-cell, cell-past, cell-within}
 use Rattle.records.proofs.Inserting.{hit-cell, bump-hit, run-written}
 use Rattle.records.proofs.Feeding.{rising-fedTo, lookup-fedTo}
-use Rattle.records.proofs.Running.{held-keys, keys-fedTo, fed-run, missing-is}
+use Rattle.records.proofs.Around.{held-keys}
+use Rattle.records.proofs.Running.{keys-fedTo, fed-run, missing-is}
 
 -- the contexts shorter than j have got one more
 pub record Counted (d i a : ℕ) (r : List ℕ) (n : ℕ) (l₀ l : List ℕ) (j : ℕ) : Type 0 where

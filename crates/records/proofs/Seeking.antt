@@ -1,20 +1,45 @@
 -- The loop of `seek`: the contexts that are shorter than j are held, at their places. Assumes nothing.
-use mathlib.Core.Path.{_≡_, _∙_}
+use mathlib.Core.Path.{_≡_, sym, ap, subst, _∙_}
 use mathlib.Core.Bool.{true, false}
-use mathlib.Core.List.{List}
-use Prim.Native.Nat.{ℕ, _+_, _*_, _≤_, _<_}
+use mathlib.Core.List.{List, [], _∷_}
+use Prim.Native.Nat.{ℕ, suc, _+_, _*_, _≤_, _<_, suc-le-suc}
 use native.Mathlib.Omega.{arith}
+use borrow.Author.Tests.{lt-ltb, le-ltb, ne-eqb}
+use lib.Dec.{T}
 use lib.ListN.{length, take, getD, set}
 use lib.Seq.{getD-set-same, getD-set-other}
 use Rattle.numbers.proofs.Orders.{less, same, more, order}
 use Rattle.contexts.specs.Keys.{keyOf}
-use Rattle.records.specs.Records.{width, records, keys}
-use Rattle.records.specs.Held.{rank, held, Placed, Onward}
+use Rattle.records.specs.Records.{width, records, key, keys, rises}
+use Rattle.records.specs.Held.{rank, held, Rising, Placed, Onward}
 use Rattle.records.specs.Fed.{Askable}
 use Rattle.records.specs.Located.{Located}
-use Rattle.records.proofs.Rising.{rank-same, above-middle}
-use Rattle.records.proofs.Finding.{found-at}
+use Rattle.records.proofs.Parts.{length-parts}
+use Rattle.records.proofs.Rising.{rises-rest, key-at, rank-same, above-middle}
+use Rattle.records.proofs.Finding.{held-none}
 use Rattle.records.proofs.KeyWalk.{Walk, key-longer}
+
+-- a key that is held stands at its rank
+held-rank : (k lo : ℕ) (rs : List (List ℕ)) → T (rises lo (keys rs)) → held k rs ≡ true → (rank k (keys rs) < length rs) × (key (getD rs (rank k (keys rs)) []) ≡ k)
+unfolding held rank
+held-rank k lo [] up e = absurd (subst T (sym e) tt)
+held-rank k lo (r ∷ rs) up e =
+    let rest = rises-rest lo (key r) (keys rs) up in
+    elim (order (key r) k) [
+      | less h ↦
+          let there = held-rank k (suc (key r)) rs rest (rw (ne-eqb (key r) k (λ q. omega arith)) at e) in
+          rw (lt-ltb (key r) k h) (suc-le-suc (there .0), there .1)
+      | same q ↦ rw (le-ltb (key r) k (omega arith)) (omega arith, q)
+      | more h ↦
+          let none = held-none k (suc (key r)) rs rest (omega arith) in
+          absurd (subst T (sym (rw (ne-eqb (key r) k (λ q. omega arith), none) at e)) tt)
+    ]
+
+pub found-at : (k n p : ℕ) (l : List ℕ) → Rising (records n l) → p ≡ rank k (keys (records n l)) → held k (records n l) ≡ true → (p < n) × (getD l (width * p) 0 ≡ k)
+found-at k n p l up at h =
+    let there = held-rank k 0 (records n l) up h in
+    let inside : p < n = omega (arith, there .0, length-parts width n l) in
+    (inside, sym (key-at n p l inside) ∙ ap (λ (x : ℕ). key (getD (records n l) x [])) at ∙ there .1)
 
 -- the contexts shorter than j are held, and `from` does not come after the next
 pub record Passed (d : ℕ) (r : List ℕ) (rs : List (List ℕ)) (places : List ℕ) (from j : ℕ) : Type 0 where
