@@ -7,9 +7,8 @@ use native.Mathlib.Omega.{arith}
 use borrow.Author.Tests.{ltb-true, ltb-false}
 use lib.Dec.{ltb}
 use lib.ListN.{length, take, drop}
-use Rattle.numbers.specs.Limits.{mostSymbols, deepest, desks}
+use Rattle.numbers.specs.Limits.{deepest, desks}
 use Rattle.contexts.specs.Sitting.{sampleOf}
-use Rattle.contexts.proofs.Strings.{context-length}
 use Rattle.records.specs.Fed.{missing, Askable}
 use Rattle.records.specs.Located.{Located}
 use Rattle.records.proofs.Running.{missing-is}
@@ -56,11 +55,8 @@ module _ (s : List ℕ) (d k a : ℕ) (j : Judged s d k a) where
       }
 
   module _ (many : ℕ) (slots : List ℕ) (p : Copied s d k many slots) where
-    then-asks : (soundb s ≡ true) × Askable d (take many slots) (used s) (drop headerSize s)
+    pub then-asks : (soundb s ≡ true) × Askable d (take many slots) (used s) (drop headerSize s)
     then-asks = (j .sound, rw (p .is-recent) (askable s (j .sound) d (j .at-open) (sampleOf k)))
-
-    pub seek-asks : (places : List ℕ) → length places ≡ 7 → (soundb s ≡ true) × Askable d (take many slots) (used s) (drop headerSize s) × (length (take many slots) < length places)
-    seek-asks places e = (then-asks .0, then-asks .1, omega (arith, context-length mostSymbols deepest (take many slots) (then-asks .1 .context)))
 
     module _ (m : ℕ) (places : List ℕ) (at : Located d (take many slots) (recordsIn s) m places) where
       pub found : Found s d (take many slots) m places

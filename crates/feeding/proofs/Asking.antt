@@ -100,6 +100,9 @@ module _ (s : List ℕ) (d : ℕ) (r : List ℕ) (m : ℕ) (places : List ℕ) (
 
   -- .. and where one is, the desk's records are counted
   module _ (on : m ≤ length r) where
+    pub few-places : m < 7
+    few-places = omega (arith, context-length mostSymbols deepest r (f .context))
+
     pub spanned : Spanned d (used s) (getD places 0 0) (getD places m 0) (lent s)
     unfolding recordsIn
     spanned =

@@ -21,6 +21,7 @@ ghost use Rattle.feeding.specs.Noted.{noted, Places};
 ghost use Rattle.feeding.specs.Run.{endingOf, Runs};
 use calls::Refusal;
 use calls::Verdict;
+use records::Sought;
 use records::feed_records;
 use records::place_from;
 use records::seek;
@@ -139,12 +140,11 @@ fn feed_judged(store: &mut [u32], desk: u32, sample: u32, symbol: u32) -> Verdic
         store,
         FIRST_DESK + DESK_SIZE * d + (RECENT_FIRST + SLOTS * i),
     );
-    let mut places = [0usize; 7];
-    let found = seek_in(store, desk, &slots[..many], &mut places);
-    if is_past(store, desk, &slots[..many], found, &places) {
+    let sought = seek_in(store, desk, &slots[..many]);
+    if is_past(store, desk, &slots[..many], sought) {
         return Verdict::Refused(Refusal::PastReservation);
     }
-    write_feed(store, desk, sample, symbol, &slots[..many], found, &places);
+    write_feed(store, desk, sample, symbol, &slots[..many], sought);
     Verdict::Done
 }
 
@@ -173,20 +173,22 @@ fn six_from(store: &[u32], at: usize) -> [u32; 6]
     ]
 }
 
-// Puts down where the contexts of a symbol that follows `recent` stand among the store's records, and answers how many are held.
-fn seek_in(store: &[u32], desk: u32, recent: &[u32], places: &mut [usize]) -> usize
-    requires { ⌜ (soundb (now store) ≡ true) × Askable desk (now recent) (used (now store)) (drop headerSize (now store)) × (length (now recent) < length (now places)) ⌝ }
-    ensures { λ r. ⌜ Located desk (now (recent .entry)) (recordsIn (now (store .entry))) r (now (places .exit)) ⌝ }
+// Where the contexts of a symbol that follows `recent` stand among the store's records.
+fn seek_in(store: &[u32], desk: u32, recent: &[u32]) -> Sought
+    requires { ⌜ (soundb (now store) ≡ true) × Askable desk (now recent) (used (now store)) (drop headerSize (now store)) ⌝ }
+    ensures { λ r. ⌜ Located desk (now (recent .entry)) (recordsIn (now (store .entry))) (r .found) (r .places) ⌝ }
 {
     let many = store[USED] as usize;
-    seek(&store[HEADER..], many, desk, recent, places)
+    seek(&store[HEADER..], many, desk, recent)
 }
 
 // Whether the contexts that are missing would take the sitting past its reservation. Where none is, what it holds need not be counted.
-fn is_past(store: &[u32], desk: u32, recent: &[u32], found: usize, places: &[usize]) -> bool
-    requires { ⌜ Found (now store) desk (now recent) found (now places) ⌝ }
-    ensures { λ r. ⌜ r ≡ ltb (reserveAt (now (store .entry)) desk) (heldBy desk (recordsIn (now (store .entry))) + (length (now (recent .entry)) + 1 - found)) ⌝ }
+fn is_past(store: &[u32], desk: u32, recent: &[u32], sought: Sought) -> bool
+    requires { ⌜ Found (now store) desk (now recent) (sought .found) (sought .places) ⌝ }
+    ensures { λ r. ⌜ r ≡ ltb (reserveAt (now (store .entry)) desk) (heldBy desk (recordsIn (now (store .entry))) + (length (now (recent .entry)) + 1 - sought .found)) ⌝ }
 {
+    let found = sought.found;
+    let places = sought.places;
     if recent.len() < found {
         return false;
     }
@@ -213,15 +215,14 @@ fn write_feed(
     sample: u32,
     symbol: u32,
     recent: &[u32],
-    found: usize,
-    places: &[usize],
+    sought: Sought,
 )
-    requires { ⌜ Acceptable (now store) desk (sampleOf sample) symbol × (sample ≤ 1) × (now recent ≡ recentAt (now store) desk (sampleOf sample)) × Located desk (now recent) (recordsIn (now store)) found (now places) ⌝ }
+    requires { ⌜ Acceptable (now store) desk (sampleOf sample) symbol × (sample ≤ 1) × (now recent ≡ recentAt (now store) desk (sampleOf sample)) × Located desk (now recent) (recordsIn (now store)) (sought .found) (sought .places) ⌝ }
     ensures { λ _. ⌜ FedStore (now (store .entry)) (now (store .exit)) desk (sampleOf sample) symbol ⌝ }
 {
     let many = store[USED] as usize;
     let body = &mut store[HEADER..];
-    let count = feed_records(body, many, desk, sample, symbol, recent, found, places);
+    let count = feed_records(body, many, desk, sample, symbol, recent, sought);
     let start = FIRST_DESK + DESK_SIZE * desk as usize;
     let i = sample as usize;
     let size = start + (SIZE_FIRST + i);

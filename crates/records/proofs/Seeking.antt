@@ -6,7 +6,7 @@ use Prim.Native.Nat.{ℕ, suc, _+_, _*_, _≤_, _<_, suc-le-suc}
 use native.Mathlib.Omega.{arith}
 use borrow.Author.Tests.{lt-ltb, le-ltb, ne-eqb}
 use lib.Dec.{T}
-use lib.ListN.{length, take, getD, set, length-set}
+use lib.ListN.{length, take, getD, set}
 use lib.Seq.{getD-set-same, getD-set-other}
 use Rattle.numbers.proofs.Orders.{less, same, more, order}
 use Rattle.contexts.specs.Keys.{keyOf}
@@ -53,9 +53,8 @@ passed-start d r rs places = record { are-held = λ k h. absurd (omega arith); s
 module _ (d : ℕ) (r : List ℕ) (n : ℕ) (l : List ℕ) (q : Askable d r n l) (places : List ℕ) (key weight from j : ℕ) (w : Walk d r key weight j)
     (p : Passed d r (records n l) places from j) where
   -- all were found
-  pub located-all : length r < length places → length r < j → Located d r (records n l) j places
-  located-all room h = record {
-    room = room;
+  pub located-all : length r < j → Located d r (records n l) j places
+  located-all h = record {
     within = w .within;
     are-held = p .are-held;
     next-missing = λ g. absurd (omega arith);
@@ -69,21 +68,20 @@ module _ (d : ℕ) (r : List ℕ) (n : ℕ) (l : List ℕ) (q : Askable d r n l)
     pub onward : Onward key n from l
     onward = record { standing = q .standing; no-later = rw key-now (p .no-later on) }
 
-    module _ (room : length r < length places) (at : ℕ) (found : Placed key n at l) where
+    module _ (inside : j < length places) (at : ℕ) (found : Placed key n at l) where
       at-is : at ≡ rank (keyOf d (take j r)) (keys (records n l))
       at-is = rank-same key (keyOf d (take j r)) (keys (records n l)) at (found .at) key-now
 
       stand : (k : ℕ) → k ≤ j → getD (set places j at) k 0 ≡ rank (keyOf d (take k r)) (keys (records n l))
       stand k h = elim (order k j) [
         | less g ↦ getD-set-other places j k at 0 (λ e. omega arith) ∙ p .stand-at k g
-        | same e ↦ rw e (getD-set-same places j at 0 (omega arith) ∙ at-is)
+        | same e ↦ rw e (getD-set-same places j at 0 inside ∙ at-is)
         | more g ↦ absurd (omega arith)
       ]
 
       -- the next one is missing
       pub located-here : held key (records n l) ≡ false → Located d r (records n l) j (set places j at)
       located-here h = record {
-        room = rw (length-set places j at) room;
         within = w .within;
         are-held = p .are-held;
         next-missing = λ g. rw key-now at h;

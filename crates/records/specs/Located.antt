@@ -15,7 +15,6 @@ use Rattle.records.specs.Fed.{fresh, Feedable}
 
 -- of the contexts take 0 recent, take 1 recent, .. of desk d the first m are held and the next is not; each of these stands, or would stand, at its place
 pub record Located (d : ℕ) (recent : List ℕ) (rs : List (List ℕ)) (m : ℕ) (places : List ℕ) : Type 0 where
-  pub room : length recent < length places
   pub within : m ≤ length recent + 1
   pub are-held : (j : ℕ) → j < m → held (keyOf d (take j recent)) rs ≡ true
   pub next-missing : m ≤ length recent → held (keyOf d (take m recent)) rs ≡ false

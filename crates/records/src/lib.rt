@@ -24,6 +24,12 @@ const DESK_SPAN: u32 = 2097152;
 // What the most recent symbol weighs in a key; each older one weighs an eighth of the one before.
 const NEWEST: u32 = 262144;
 
+// Where the contexts that a symbol follows stand: how many of them are held, and their places. Where one is not held, its place comes after those.
+pub struct Sought {
+    pub found: usize,
+    pub places: [usize; 7],
+}
+
 // A key's place is from `low` to `high`.
 struct Bounds {
     low: usize,
@@ -57,12 +63,13 @@ pub fn place_from(numbers: &[u32], n: usize, from: usize, key: u32) -> usize
     halve(numbers, n, bounds, key)
 }
 
-// Where the contexts that a symbol follows stand: puts their places down, from the shortest to the first that none of the `n` records has,
-// and answers how many are held. `recent` are the symbols before it, most recent first.
-pub fn seek(numbers: &[u32], n: usize, desk: u32, recent: &[u32], places: &mut [usize]) -> usize
-    requires { ⌜ Askable desk (now recent) n (now numbers) × (length (now recent) < length (now places)) ⌝ }
-    ensures { λ r. ⌜ Located desk (now (recent .entry)) (records n (now (numbers .entry))) r (now (places .exit)) ⌝ }
+// Where the contexts that a symbol follows stand, from the shortest to the first that none of the `n` records has.
+// `recent` are the symbols before it, most recent first.
+pub fn seek(numbers: &[u32], n: usize, desk: u32, recent: &[u32]) -> Sought
+    requires { ⌜ Askable desk (now recent) n (now numbers) ⌝ }
+    ensures { λ r. ⌜ Located desk (now (recent .entry)) (records n (now (numbers .entry))) (r .found) (r .places) ⌝ }
 {
+    let mut places = [0usize; 7];
     let mut key = desk * DESK_SPAN;
     let mut weight = NEWEST;
     let mut from: usize = 0;
@@ -71,14 +78,14 @@ pub fn seek(numbers: &[u32], n: usize, desk: u32, recent: &[u32], places: &mut [
         let at = place_from(numbers, n, from, key);
         places[found] = at;
         if !stands(numbers, n, at, key) {
-            return found;
+            return Sought { found, places };
         }
         key = longer(key, weight, recent, found);
         weight = weight / 8;
         from = at + 1;
         found = found + 1;
     }
-    found
+    Sought { found, places }
 }
 
 // The counts under a key: zeros where none of the first `n` records has it.
@@ -112,7 +119,7 @@ pub fn remove_desk(numbers: &mut [u32], n: usize, desk: u32) -> usize
 }
 
 // A symbol is fed to a sample: each context that it follows gets one more. `recent` are the symbols before it, most recent first,
-// and `places` are those of its contexts, of which `found` are held. Gives the number of records then. New records use up the numbers behind the `n` records.
+// and `sought` says where its contexts stand. Gives the number of records then. New records use up the numbers behind the `n` records.
 pub fn feed_records(
     numbers: &mut [u32],
     n: usize,
@@ -120,13 +127,14 @@ pub fn feed_records(
     sample: u32,
     symbol: u32,
     recent: &[u32],
-    found: usize,
-    places: &[usize],
+    sought: Sought,
 ) -> usize
-    requires { ⌜ Ready desk sample symbol (now recent) n (now numbers) found (now places) ⌝ }
+    requires { ⌜ Ready desk sample symbol (now recent) n (now numbers) (sought .found) (sought .places) ⌝ }
     ensures { λ r. ⌜ Written (fed desk (sampleOf sample) symbol (now (recent .entry)) (records n (now (numbers .entry)))) r (now (numbers .entry)) (now (numbers .exit)) ⌝ }
 {
     let cell = 1 + (SYMBOLS * sample as usize + symbol as usize);
+    let found = sought.found;
+    let places = sought.places;
     let mut done: usize = 0;
     while done < found {
         raise(numbers, WIDTH * places[done] + cell);

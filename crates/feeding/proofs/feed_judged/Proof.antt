@@ -1,11 +1,11 @@
 -- `feeding::feed_judged` meets its contract: refusal 10, or the store fed. Assumes nothing.
 use Prim.Native.Nat.{_+_}
 use native.Mathlib.Omega.{arith}
-use mathlib.Core.Path.{_≡_, refl, sym}
-use lib.ListN.{length, take, replicate}
+use mathlib.Core.Path.{_≡_, sym}
+use lib.ListN.{length, take}
 use lib.Seq.{length-take-le}
 use borrow.Author.Needs.{needs}
-use Rattle.feeding.proofs.Answering.{Copied, field-asked, six-asked, copied, seek-asks, found, refused-past, write-asks, fed-moves}
+use Rattle.feeding.proofs.Answering.{Copied, field-asked, six-asked, copied, then-asks, found, refused-past, write-asks, fed-moves}
 use Rattle.feeding.proofs.feed_judged.Statement.{statement}
 use Rattle.feeding.proofs.feed_judged.Tie as tie
 
@@ -70,33 +70,27 @@ array-share-prefix-slots c = recent (c .before) .fits
 slice-aggregate-seek-in : tie.Need-slice-aggregate-seek-in
 slice-aggregate-seek-in c = lent-long (c .before .before)
 
-slice-aggregate-seek-in-2 : tie.Need-slice-aggregate-seek-in-2
-slice-aggregate-seek-in-2 c = search needs
-
 seek-in-requires : tie.Need-seek-in-requires
 seek-in-requires c κs =
-    let six = c .before .before .before in
+    let six = c .before .before in
     let start = six .before .before .before .before .before .before .before .before in
     let x = start .args in
-    seek-asks (x .store .now) (x .desk) (x .sample) (x .symbol) (start .pre) (six .before .before .fewer .result) (six .six-from .result) (recent six) (replicate 7 0) refl
+    then-asks (x .store .now) (x .desk) (x .sample) (x .symbol) (start .pre) (six .before .before .fewer .result) (six .six-from .result) (recent six)
 
 array-share-prefix-slots-2 : tie.Need-array-share-prefix-slots-2
-array-share-prefix-slots-2 c = recent (c .before .before .before .before .before .before) .fits
+array-share-prefix-slots-2 c = recent (c .before .before .before .before) .fits
 
 slice-aggregate-is-past : tie.Need-slice-aggregate-is-past
-slice-aggregate-is-past c = lent-long (c .before .before .before .before .before .before .before)
-
-slice-aggregate-is-past-2 : tie.Need-slice-aggregate-is-past-2
-slice-aggregate-is-past-2 c = search needs
+slice-aggregate-is-past c = lent-long (c .before .before .before .before .before)
 
 is-past-requires : tie.Need-is-past-requires
 is-past-requires c κs =
-    let sought = c .before .before .before .before in
-    let six = sought .before .before .before .before in
+    let sought = c .before .before in
+    let six = sought .before .before .before in
     let start = six .before .before .before .before .before .before .before .before in
     let x = start .args in
     found (x .store .now) (x .desk) (x .sample) (x .symbol) (start .pre) (six .before .before .fewer .result) (six .six-from .result) (recent six)
-    (sought .seek-in .result) (sought .seek-in .last .1 .1 .1 .0) (sought .seek-in .ensures)
+    (sought .seek-in .result .found) (sought .seek-in .result .places) (sought .seek-in .ensures)
 
 same-length : tie.Need-same-length
 same-length c = search needs
@@ -104,47 +98,43 @@ same-length c = search needs
 returns : tie.Need-returns
 returns c =
     let past = c .before in
-    let sought = past .before .before .before .before .before in
-    let six = sought .before .before .before .before in
+    let sought = past .before .before .before in
+    let six = sought .before .before .before in
     let start = six .before .before .before .before .before .before .before .before in
     let x = start .args in
     refused-past (x .store .now) (x .desk) (x .sample) (x .symbol) (start .pre) (six .before .before .fewer .result) (six .six-from .result) (recent six)
-    (sought .seek-in .result) (sought .seek-in .last .1 .1 .1 .0) (sought .seek-in .ensures) (past .is-past .result) (past .is-past .ensures) (c .if1 .taken)
+    (sought .seek-in .result .found) (sought .seek-in .result .places) (sought .seek-in .ensures) (past .is-past .result) (past .is-past .ensures) (c .if1 .taken)
 
 array-share-prefix-slots-3 : tie.Need-array-share-prefix-slots-3
-array-share-prefix-slots-3 c = recent (c .before .before .before .before .before .before .before .before .before .before .before) .fits
+array-share-prefix-slots-3 c = recent (c .before .before .before .before .before .before .before .before) .fits
 
 slice-aggregate-write-feed : tie.Need-slice-aggregate-write-feed
-slice-aggregate-write-feed c = lent-long (c .before .before .before .before .before .before .before .before .before .before .before .before)
-
-slice-aggregate-write-feed-2 : tie.Need-slice-aggregate-write-feed-2
-slice-aggregate-write-feed-2 c = search needs
+slice-aggregate-write-feed c = lent-long (c .before .before .before .before .before .before .before .before .before)
 
 write-feed-requires : tie.Need-write-feed-requires
 write-feed-requires c κs =
-    let else = c .before .before .before in
-    let past = else .before in
-    let sought = past .before .before .before .before .before in
-    let six = sought .before .before .before .before in
+    let past = c .before .before .before in
+    let sought = past .before .before .before in
+    let six = sought .before .before .before in
     let start = six .before .before .before .before .before .before .before .before in
     let x = start .args in
     write-asks (x .store .now) (x .desk) (x .sample) (x .symbol) (start .pre) (six .before .before .fewer .result) (six .six-from .result) (recent six)
-    (sought .seek-in .result) (sought .seek-in .last .1 .1 .1 .0) (sought .seek-in .ensures) (past .is-past .result) (past .is-past .ensures) (else .if1 .left)
+    (sought .seek-in .result .found) (sought .seek-in .result .places) (sought .seek-in .ensures) (past .is-past .result) (past .is-past .ensures) (c .before .before .if1 .left)
 
 same-length-2 : tie.Need-same-length-2
 same-length-2 c = search needs
 
 returns-2 : tie.Need-returns-2
 returns-2 c =
-    let else = c .before .before .before .before .before .before in
+    let else = c .before .before .before .before .before in
     let past = else .before in
-    let sought = past .before .before .before .before .before in
-    let six = sought .before .before .before .before in
+    let sought = past .before .before .before in
+    let six = sought .before .before .before in
     let start = six .before .before .before .before .before .before .before .before in
     let x = start .args in
     let wrote = c .before .before .write-feed in
     fed-moves (x .store .now) (x .desk) (x .sample) (x .symbol) (start .pre) (six .before .before .fewer .result) (six .six-from .result) (recent six)
-    (sought .seek-in .result) (sought .seek-in .last .1 .1 .1 .0) (sought .seek-in .ensures) (past .is-past .result) (past .is-past .ensures) (else .if1 .left) (wrote .last .0) (wrote .ensures)
+    (sought .seek-in .result .found) (sought .seek-in .result .places) (sought .seek-in .ensures) (past .is-past .result) (past .is-past .ensures) (else .if1 .left) (wrote .last .0) (wrote .ensures)
 
 pub feed-judged-spec : {M : Type 1} → statement M
 feed-judged-spec =
@@ -163,17 +153,14 @@ feed-judged-spec =
     six-from-requires
     array-share-prefix-slots
     slice-aggregate-seek-in
-    slice-aggregate-seek-in-2
     seek-in-requires
     array-share-prefix-slots-2
     slice-aggregate-is-past
-    slice-aggregate-is-past-2
     is-past-requires
     same-length
     returns
     array-share-prefix-slots-3
     slice-aggregate-write-feed
-    slice-aggregate-write-feed-2
     write-feed-requires
     same-length-2
     returns-2)

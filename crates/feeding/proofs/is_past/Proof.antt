@@ -1,7 +1,7 @@
 -- `feeding::is_past` meets its contract: refusal 10. Assumes nothing.
 use native.Mathlib.Omega.{arith}
 use Rattle.store.proofs.Standing.{sound-stands}
-use Rattle.feeding.proofs.Asking.{none-past, spanned, sum-small, past-is}
+use Rattle.feeding.proofs.Asking.{none-past, few-places, spanned, sum-small, past-is}
 use borrow.Author.Needs.{needs}
 use Rattle.feeding.proofs.is_past.Statement.{statement}
 use Rattle.feeding.proofs.is_past.Tie as tie
@@ -10,7 +10,7 @@ returns : tie.Need-returns
 returns c =
     let start = c .before .before .before .before in
     let x = start .args in
-    none-past (x .store .now) (x .desk) (x .recent .now) (x .found) (x .places .now) (start .pre) (c .if1 .taken)
+    none-past (x .store .now) (x .desk) (x .recent .now) (x .sought .found) (x .sought .places) (start .pre) (c .if1 .taken)
 
 add-more : tie.Need-add-more
 add-more c = search needs
@@ -24,7 +24,7 @@ shared-slice-read-many c =
     omega (arith, sound-stands (start .args .store .now) (start .pre .sound) .long)
 
 cast-many : tie.Need-cast-many
-cast-many c = omega (arith, c .shared-slice-known4 .given 1)
+cast-many c = omega (arith, c .shared-slice-known3 .given 1)
 
 sub-held-by : tie.Need-sub-held-by
 sub-held-by c =
@@ -39,28 +39,27 @@ part-held-by-start c =
 part-held-by-end : tie.Need-part-held-by-end
 part-held-by-end c = search needs
 
-shared-slice-read-held-by : tie.Need-shared-slice-read-held-by
-shared-slice-read-held-by c =
-    let start = c .before .before .before .before .before .before .before in
-    omega (arith, start .pre .located .room)
+array-read-held-by : tie.Need-array-read-held-by
+array-read-held-by c = search needs
 
 mul-held-by : tie.Need-mul-held-by
 mul-held-by c = search needs
 
-shared-slice-read-held-by-2 : tie.Need-shared-slice-read-held-by-2
-shared-slice-read-held-by-2 c =
-    let start = c .before .before .before .before .before .before .before .before in
-    omega (arith, start .pre .located .room)
+array-read-held-by-2 : tie.Need-array-read-held-by-2
+array-read-held-by-2 c =
+    let start = c .before .before .before .before .before .before in
+    let x = start .args in
+    few-places (x .store .now) (x .desk) (x .recent .now) (x .sought .found) (x .sought .places) (start .pre) (c .before .before .if1 .left)
 
 held-by-requires : tie.Need-held-by-requires
 held-by-requires c κs =
-    let start = c .before .before .before .before .before .before .before .before in
+    let start = c .before .before .before .before .before .before in
     let x = start .args in
-    spanned (x .store .now) (x .desk) (x .recent .now) (x .found) (x .places .now) (start .pre) (c .before .before .before .before .if1 .left)
+    spanned (x .store .now) (x .desk) (x .recent .now) (x .sought .found) (x .sought .places) (start .pre) (c .before .before .if1 .left)
 
 field-at-requires : tie.Need-field-at-requires
 field-at-requires c κs =
-    let start = c .before .before .before .before .before .before .before .before .before in
+    let start = c .before .before .before .before .before .before .before in
     let x = start .args in
     (omega (arith, sound-stands (x .store .now) (start .pre .sound) .long), start .pre .at-open .desk, omega arith)
 
@@ -69,15 +68,15 @@ cast-reserve c = search needs
 
 add-result : tie.Need-add-result
 add-result c =
-    let start = c .before .before .before .before .before .before .before .before .before .before in
+    let start = c .before .before .before .before .before .before .before .before in
     let x = start .args in
-    omega (arith, sum-small (x .store .now) (x .desk) (x .recent .now) (x .found) (x .places .now) (start .pre) (c .before .before .before .before .before .before .if1 .left) (c .before .held-by .result) (c .field-at .result) (c .before .held-by .ensures) (c .field-at .ensures))
+    omega (arith, sum-small (x .store .now) (x .desk) (x .recent .now) (x .sought .found) (x .sought .places) (start .pre) (c .before .before .before .before .if1 .left) (c .before .held-by .result) (c .field-at .result) (c .before .held-by .ensures) (c .field-at .ensures))
 
 returns-2 : tie.Need-returns-2
 returns-2 c =
-    let start = c .before .before .before .before .before .before .before .before .before .before in
+    let start = c .before .before .before .before .before .before .before .before in
     let x = start .args in
-    past-is (x .store .now) (x .desk) (x .recent .now) (x .found) (x .places .now) (start .pre) (c .before .before .before .before .before .before .if1 .left) (c .before .held-by .result) (c .field-at .result) (c .before .held-by .ensures) (c .field-at .ensures)
+    past-is (x .store .now) (x .desk) (x .recent .now) (x .sought .found) (x .sought .places) (start .pre) (c .before .before .before .before .if1 .left) (c .before .held-by .result) (c .field-at .result) (c .before .held-by .ensures) (c .field-at .ensures)
 
 pub is-past-spec : {M : Type 1} → statement M
 is-past-spec =
@@ -91,9 +90,9 @@ is-past-spec =
     sub-held-by
     part-held-by-start
     part-held-by-end
-    shared-slice-read-held-by
+    array-read-held-by
     mul-held-by
-    shared-slice-read-held-by-2
+    array-read-held-by-2
     held-by-requires
     field-at-requires
     cast-reserve

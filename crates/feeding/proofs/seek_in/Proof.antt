@@ -8,7 +8,7 @@ use Rattle.feeding.proofs.seek_in.Tie as tie
 
 shared-slice-read-many : tie.Need-shared-slice-read-many
 shared-slice-read-many c =
-    let start = c .before .before .before .before in
+    let start = c .before .before .before in
     omega (arith, sound-stands (start .args .store .now) (start .pre .0) .long)
 
 cast-many : tie.Need-cast-many
@@ -16,12 +16,12 @@ cast-many c = omega (arith, c .shared-slice-known3 .given 1)
 
 sub-seek : tie.Need-sub-seek
 sub-seek c =
-    let start = c .before .before .before .before in
+    let start = c .before .before .before in
     omega (arith, sound-stands (start .args .store .now) (start .pre .0) .long)
 
 part-seek-start : tie.Need-part-seek-start
 part-seek-start c =
-    let start = c .before .before .before .before in
+    let start = c .before .before .before in
     omega (arith, sound-stands (start .args .store .now) (start .pre .0) .long)
 
 part-seek-end : tie.Need-part-seek-end
@@ -29,18 +29,14 @@ part-seek-end c = search needs
 
 seek-requires : tie.Need-seek-requires
 seek-requires c κs =
-    let start = c .before .before .before .before .before .before in
+    let start = c .before .before .before .before in
     let x = start .args in
-    (lent-askable (x .store .now) (x .desk) (x .recent .now) (start .pre .1), start .pre .2)
-
-same-length : tie.Need-same-length
-same-length c = search needs
+    lent-askable (x .store .now) (x .desk) (x .recent .now) (start .pre .1)
 
 returns : tie.Need-returns
 returns c =
-    let x = c .before .before .before .before .before .before .before .before .before .args in
-    let sought = c .before .before .seek in
-    located-in (x .store .now) (x .desk) (x .recent .now) (sought .result) (sought .last .1 .1 .1 .1 .0) (sought .ensures)
+    let x = c .before .before .before .before .before .args in
+    located-in (x .store .now) (x .desk) (x .recent .now) (c .seek .result .found) (c .seek .result .places) (c .seek .ensures)
 
 pub seek-in-spec : {M : Type 1} → statement M
 seek-in-spec =
@@ -52,5 +48,4 @@ seek-in-spec =
     part-seek-start
     part-seek-end
     seek-requires
-    same-length
     returns)

@@ -8,7 +8,7 @@ use Rattle.feeding.proofs.write_feed.Tie as tie
 
 slice-read-many : tie.Need-slice-read-many
 slice-read-many c =
-    let start = c .before .before .before .before in
+    let start = c .before .before .before in
     omega (arith, sound-stands (start .args .store .now) (start .pre .0 .sound) .long)
 
 cast-many : tie.Need-cast-many
@@ -16,12 +16,12 @@ cast-many c = omega (arith, c .slice-known2 .given 1)
 
 sub-body : tie.Need-sub-body
 sub-body c =
-    let start = c .before .before .before .before in
+    let start = c .before .before .before in
     omega (arith, sound-stands (start .args .store .now) (start .pre .0 .sound) .long)
 
 part-body-start : tie.Need-part-body-start
 part-body-start c =
-    let start = c .before .before .before .before in
+    let start = c .before .before .before in
     omega (arith, sound-stands (start .args .store .now) (start .pre .0 .sound) .long)
 
 part-body-end : tie.Need-part-body-end
@@ -29,9 +29,9 @@ part-body-end c = search needs
 
 feed-records-requires : tie.Need-feed-records-requires
 feed-records-requires c κs =
-    let start = c .before .before .before .before .before in
+    let start = c .before .before .before .before in
     let x = start .args in
-    lent-ready (x .store .now) (x .desk) (x .sample) (x .symbol) (start .pre .0) (start .pre .1) (x .recent .now) (start .pre .2) (x .found) (x .places .now) (start .pre .3)
+    lent-ready (x .store .now) (x .desk) (x .sample) (x .symbol) (start .pre .0) (start .pre .1) (x .recent .now) (start .pre .2) (x .sought .found) (x .sought .places) (start .pre .3)
 
 mul-start : tie.Need-mul-start
 mul-start c = search needs
@@ -56,14 +56,14 @@ add-slots-2 c = search needs
 
 cast-note : tie.Need-cast-note
 cast-note c =
-    let start = c .before .before .before .before .before .before .before .before .before in
+    let start = c .before .before .before .before .before .before .before .before in
     let x = start .args in
     let fed = c .before .before .before .feed-records in
     omega (arith, count-fits (x .store .now) (x .desk) (x .sample) (x .symbol) (start .pre .0) (start .pre .1) (x .recent .now) (start .pre .2) (fed .result) (fed .last .0) (search needs) (fed .ensures))
 
 note-requires : tie.Need-note-requires
 note-requires c κs =
-    let start = c .before .before .before .before .before .before .before .before .before in
+    let start = c .before .before .before .before .before .before .before .before in
     let x = start .args in
     let fed = c .before .before .before .feed-records in
     note-asks (x .store .now) (x .desk) (x .sample) (x .symbol) (start .pre .0) (start .pre .1) (x .recent .now) (start .pre .2) (fed .result) (fed .last .0) (search needs) (fed .ensures)
@@ -73,7 +73,7 @@ same-length c = search needs
 
 returns : tie.Need-returns
 returns c =
-    let start = c .before .before .before .before .before .before .before .before .before .before .before .before in
+    let start = c .before .before .before .before .before .before .before .before .before .before .before in
     let x = start .args in
     let fed = c .before .before .before .before .before .before .feed-records in
     let noted = c .before .before .note in

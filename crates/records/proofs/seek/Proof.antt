@@ -4,6 +4,8 @@ use Prim.Native.Nat.{_+_, _-_, _≤_, _<_}
 use native.Mathlib.Omega.{arith}
 use borrow.Author.Tests.{not-true, not-false}
 use lib.ListN.{length, length-set}
+use Rattle.numbers.specs.Limits.{mostSymbols, deepest}
+use Rattle.contexts.proofs.Strings.{context-length}
 use Rattle.records.specs.Records.{records}
 use Rattle.records.proofs.KeyWalk.{Walk, walk-start, walk-fits, walk-on}
 use Rattle.records.proofs.Seeking.{Passed, passed-start, onward, located-here, located-all, passed-on}
@@ -12,64 +14,63 @@ use Rattle.records.proofs.seek.Tie as tie
 
 abbrev Inv-loop : tie.InvT-loop
 Inv-loop l n desk recent places₀ key₀ weight₀ from₀ found₀ places key weight from found =
-    Walk desk recent key weight found × Passed desk recent (records n l) places from found × (length places ≡ length places₀)
+    Walk desk recent key weight found × Passed desk recent (records n l) places from found × (length places ≡ 7)
 
 abbrev μ-loop : tie.MeasureT-loop
 μ-loop l n desk recent places₀ key₀ weight₀ from₀ found₀ places key weight from found = length recent + 1 - found
 
 -- there is a place for each context
-room : (c : tie.At-loop Inv-loop μ-loop) → length (c .before .before .before .before .args .recent .now) < length (c .loop .places)
-room c = omega (arith, c .before .before .before .before .pre .1)
+inside : (c : tie.After-place-from Inv-loop μ-loop) → (let at = c .before .before .loop in at .found < length (at .places))
+inside c =
+    let start = c .before .before .before .before .before in
+    omega (arith, context-length mostSymbols deepest (start .args .recent .now) (start .pre .context))
 
 mul-key : tie.Need-mul-key Inv-loop μ-loop
 mul-key c = omega arith
 
 loop-holds : tie.Need-loop-holds Inv-loop μ-loop
 loop-holds c =
-    let x = c .before .before .before .args in
+    let x = c .before .before .args in
     (walk-start (x .desk) (x .recent .now), passed-start (x .desk) (x .recent .now) (records (x .n) (x .numbers .now)) _, refl)
 
 place-from-requires : tie.Need-place-from-requires Inv-loop μ-loop
 place-from-requires c κs =
-    let start = c .before .before .before .before .before in
+    let start = c .before .before .before .before in
     let x = start .args in
     let at = c .before .loop in
-    onward (x .desk) (x .recent .now) (x .n) (x .numbers .now) (start .pre .0) (at .places) (at .key) (at .weight) (at .from) (at .found) (at .inv .0) (at .inv .1) (omega arith)
+    onward (x .desk) (x .recent .now) (x .n) (x .numbers .now) (start .pre) (at .places) (at .key) (at .weight) (at .from) (at .found) (at .inv .0) (at .inv .1) (omega arith)
 
 mul-places : tie.Need-mul-places Inv-loop μ-loop
 mul-places c = omega arith
 
-slice-write-places : tie.Need-slice-write-places Inv-loop μ-loop
-slice-write-places c = omega (arith, room (c .before .before))
+array-write-places : tie.Need-array-write-places Inv-loop μ-loop
+array-write-places c = omega (arith, inside c)
 
 stands-requires : tie.Need-stands-requires Inv-loop μ-loop
-stands-requires c κs = (c .before .before .before .before .before .before .pre .0 .standing, c .place-from .ensures)
-
-same-length : tie.Need-same-length Inv-loop μ-loop
-same-length c = simp length-set (c .before .before .before .before .loop .inv .2)
+stands-requires c κs = (c .before .before .before .before .before .pre .standing, c .place-from .ensures)
 
 returns : tie.Need-returns Inv-loop μ-loop
 returns c =
     let placed = c .before .before in
-    let start = placed .before .before .before .before .before .before in
+    let start = placed .before .before .before .before .before in
     let x = start .args in
     let at = placed .before .before .loop in
-    located-here (x .desk) (x .recent .now) (x .n) (x .numbers .now) (start .pre .0) (at .places) (at .key) (at .weight) (at .from) (at .found) (at .inv .0) (at .inv .1) (omega arith)
-    (room (placed .before .before)) (placed .place-from .result) (placed .place-from .ensures) (sym (c .before .stands .ensures) ∙ not-true _ (c .if1 .taken))
+    located-here (x .desk) (x .recent .now) (x .n) (x .numbers .now) (start .pre) (at .places) (at .key) (at .weight) (at .from) (at .found) (at .inv .0) (at .inv .1) (omega arith)
+    (inside placed) (placed .place-from .result) (placed .place-from .ensures) (sym (c .before .stands .ensures) ∙ not-true _ (c .if1 .taken))
 
 longer-requires : tie.Need-longer-requires Inv-loop μ-loop
 longer-requires c κs =
     let placed = c .before .before in
-    let start = placed .before .before .before .before .before .before in
+    let start = placed .before .before .before .before .before in
     let x = start .args in
     let at = placed .before .before .loop in
-    walk-fits (x .desk) (x .recent .now) (start .pre .0 .desk) (start .pre .0 .context) (at .key) (at .weight) (at .found) (at .inv .0)
+    walk-fits (x .desk) (x .recent .now) (start .pre .desk) (start .pre .context) (at .key) (at .weight) (at .found) (at .inv .0)
 
 add-from : tie.Need-add-from Inv-loop μ-loop
 add-from c =
     let placed = c .before .before .before in
-    let start = placed .before .before .before .before .before .before in
-    omega (arith, placed .place-from .ensures .within, start .pre .0 .standing .fits)
+    let start = placed .before .before .before .before .before in
+    omega (arith, placed .place-from .ensures .within, start .pre .standing .fits)
 
 add-found : tie.Need-add-found Inv-loop μ-loop
 add-found c = omega arith
@@ -80,25 +81,22 @@ loop-less c = omega arith
 loop-again : tie.Need-loop-again Inv-loop μ-loop
 loop-again c =
     let placed = c .before .before .before in
-    let start = placed .before .before .before .before .before .before in
+    let start = placed .before .before .before .before .before in
     let x = start .args in
     let at = placed .before .before .loop in
     let on : at .found ≤ length (x .recent .now) = omega arith in (
-      walk-on (x .desk) (x .recent .now) (start .pre .0 .desk) (start .pre .0 .context) (at .key) (at .weight) (at .found) (at .inv .0) (c .longer .result) on (c .longer .ensures),
-      passed-on (x .desk) (x .recent .now) (x .n) (x .numbers .now) (start .pre .0) (at .places) (at .key) (at .weight) (at .from) (at .found) (at .inv .0) (at .inv .1) on
-          (room (placed .before .before)) (placed .place-from .result) (placed .place-from .ensures) (sym (c .before .before .stands .ensures) ∙ not-false _ (c .before .if1 .left)),
+      walk-on (x .desk) (x .recent .now) (start .pre .desk) (start .pre .context) (at .key) (at .weight) (at .found) (at .inv .0) (c .longer .result) on (c .longer .ensures),
+      passed-on (x .desk) (x .recent .now) (x .n) (x .numbers .now) (start .pre) (at .places) (at .key) (at .weight) (at .from) (at .found) (at .inv .0) (at .inv .1) on
+          (inside placed) (placed .place-from .result) (placed .place-from .ensures) (sym (c .before .before .stands .ensures) ∙ not-false _ (c .before .if1 .left)),
       simp length-set (at .inv .2),
     )
 
-same-length-2 : tie.Need-same-length-2 Inv-loop μ-loop
-same-length-2 c = c .before .loop .inv .2
-
 returns-2 : tie.Need-returns-2 Inv-loop μ-loop
 returns-2 c =
-    let start = c .before .before .before .before .before in
+    let start = c .before .before .before .before in
     let x = start .args in
     let at = c .before .loop in
-    located-all (x .desk) (x .recent .now) (x .n) (x .numbers .now) (start .pre .0) (at .places) (at .key) (at .weight) (at .from) (at .found) (at .inv .0) (at .inv .1) (room (c .before)) (omega arith)
+    located-all (x .desk) (x .recent .now) (x .n) (x .numbers .now) (start .pre) (at .places) (at .key) (at .weight) (at .from) (at .found) (at .inv .0) (at .inv .1) (omega arith)
 
 pub seek-spec : {M : Type 1} → statement M
 seek-spec =
@@ -110,14 +108,12 @@ seek-spec =
     loop-holds
     place-from-requires
     mul-places
-    slice-write-places
+    array-write-places
     stands-requires
-    same-length
     returns
     longer-requires
     add-from
     add-found
     loop-less
     loop-again
-    same-length-2
     returns-2)
