@@ -1,4 +1,4 @@
--- A visit to one context, and its turns over the children. Assumes nothing.
+-- A visit to one context: what stands for one that is not held, and what one that is held gives at depth D. Assumes nothing.
 use Prim.Native.Nat.{ℕ, _+_, _-_, _*_, _≤_, _<_}
 use mathlib.Core.Path.{_≡_, sym, ap, subst, subst₂, _∙_}
 use mathlib.Core.Bool.{true, false}
@@ -93,9 +93,6 @@ module _ {k : Desk} {costs : ByKind} {n : ℕ} {l old : List ℕ} {c : Context} 
   abbrev q : Ready k costs n l s c p
   q = v .ready
 
-  abbrev F : Losses
-  F = losses (sittingIn k (records n l))
-
   on : T (held (keyOf (k .number) s) (records n l))
   on = of-true (held (keyOf (k .number) s) (records n l)) (subst (λ (z : ℕ). held z (records n l) ≡ true) (q .key-is) (v .on))
 
@@ -116,7 +113,7 @@ module _ {k : Desk} {costs : ByKind} {n : ℕ} {l old : List ℕ} {c : Context} 
         second-cost = small (own second);
       }
 
-  pub own-losses : {o : ByKind} → LossesOf (tableOf (recordAt p l)) costs o → (t : Kind) → at o t ≡ F t s
+  pub own-losses : {o : ByKind} → LossesOf (tableOf (recordAt p l)) costs o → (t : Kind) → at o t ≡ f q t s
   own-losses {o} g = losses-here k n l (q .weighable) costs (q .priced) s o (subst (λ (z : List (List ℕ)). LossesOf z costs o) table-is g)
 
   pub own-small : {o : ByKind} → LossesOf (tableOf (recordAt p l)) costs o → Small o
@@ -128,21 +125,21 @@ module _ {k : Desk} {costs : ByKind} {n : ℕ} {l old : List ℕ} {c : Context} 
   pub past-own : p + 1 ≡ rank (keyOf (k .number) s + 1) (keys (records n l))
   past-own = ap (λ (z : ℕ). z + 1) (q .place) ∙ sym (rank-own (keyOf (k .number) s) 0 (records n l) (q .weighable .standing .rising) on)
 
-  pub mark-there : (d m : ℕ) → length s + d ≡ k .depth → m ≡ markAt (k .symbols) d F s → m ≡ markOf (k .symbols) (k .depth) F (getD l (width * p) 0)
-  mark-there d m h e = e ∙ sym (mark-here q d h) ∙ ap (markOf (k .symbols) (k .depth) F) (sym (there .1))
+  pub mark-there : (d m : ℕ) → length s + d ≡ k .depth → m ≡ markAt (k .symbols) d (f q) s → m ≡ markOf (k .symbols) (k .depth) (f q) (getD l (width * p) 0)
+  mark-there d m h e = e ∙ sym (mark-here q d h) ∙ ap (markOf (k .symbols) (k .depth) (f q)) (sym (there .1))
 
   -- with no symbol left
   pub answer-leaf : {o : ByKind} → LossesOf (tableOf (recordAt p l)) costs o → c .left ≡ 0 → {new : List ℕ} {r : Weighed} → LeafHere o p old new r → Visited k n l s (c .left) p old new r
   answer-leaf {o} lost z {new} {r} w = subst₂ (λ (d : ℕ) (after : List ℕ). Visited k n l s d p old after r) (sym z) (sym (w .mark)) (record {
-    least = choosing.leaf-least (k .symbols) F s o is (p + 1) r (w .is);
-    rows = choosing.leaf-members (k .symbols) F s o is (p + 1) r (w .is);
+    least = choosing.leaf-least (k .symbols) (f q) s o is (p + 1) r (w .is);
+    rows = choosing.leaf-members (k .symbols) (f q) s o is (p + 1) r (w .is);
     past = w .is .onward ∙ past-own ∙ past-deepest k n l (q .weighable) s (q .context) (omega (arith, q .left-is));
     marked = written-mark k n l p (r .next) (leafMark o) old old (v .beside) (there .0) mark (record { is = λ j lo hi. absurd (omega (arith, w .is .onward)) });
     apart = written-apart k n l p (r .next) (leafMark o) old old (v .beside) (there .0) mark (omega (arith, w .is .onward)) (apart-none (p + 1) (r .next) old);
   })
     where
-      is : (t : Kind) → at o t ≡ F t s
+      is : (t : Kind) → at o t ≡ f q t s
       is = own-losses lost
 
-      mark : leafMark o ≡ markOf (k .symbols) (k .depth) F (getD l (width * p) 0)
-      mark = mark-there 0 (leafMark o) (omega (arith, q .left-is)) (choosing.leaf-mark (k .symbols) F s o is)
+      mark : leafMark o ≡ markOf (k .symbols) (k .depth) (f q) (getD l (width * p) 0)
+      mark = mark-there 0 (leafMark o) (omega (arith, q .left-is)) (choosing.leaf-mark (k .symbols) (f q) s o is)
