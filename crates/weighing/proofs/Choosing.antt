@@ -1,11 +1,10 @@
 -- The numbers that the code works out at one context are the model's: at a leaf, at an unseen context, and over children. Assumes nothing.
-use Prim.Native.Nat.{ℕ, zero, suc, _+_, _*_, _<_, min}
+use Prim.Native.Nat.{ℕ, zero, suc, _+_, _^_, _<_, min}
 use mathlib.Core.Path.{_≡_, sym, ap, _∙_}
-use mathlib.Core.Bool.{cond, not}
+use mathlib.Core.Bool.{cond}
 use mathlib.Core.List.{List}
 use lib.ListN.{length}
 use lib.Dec.{leb}
-use Rattle.numbers.specs.Sum.{one}
 use Rattle.contexts.specs.Sitting.{Sample, first, second}
 use Rattle.estimate.specs.Trees.{Kind, shared, own, from}
 use Rattle.estimate.specs.Recursion.{Losses}
@@ -13,10 +12,19 @@ use Rattle.estimate.specs.declared.ByKind.{ByKind}
 use Rattle.estimate.proofs.Tables.{at}
 use Rattle.estimate.proofs.Unseen.{Flat}
 use Rattle.weighing.specs.declared.Weighed.{Weighed}
-use Rattle.weighing.specs.Trees.{leastAt, membersAt, choice, markAt}
-use Rattle.weighing.specs.Visit.{LeafOf, SplitOf}
+use Rattle.weighing.specs.Trees.{leastAt, membersAt, markAt}
+use Rattle.weighing.specs.Visit.{LeafOf, SplitOf, SumOf, Fits, leafMark, splitMark}
 use Rattle.weighing.proofs.Standing.{least-leaf, joint-leaf, members-leaf, members-joint-leaf, mark-leaf, lessBelow, membersBelow, least-split, joint-split, members-split, members-joint-split, mark-split}
 use Rattle.weighing.proofs.Flat.{least-flat, members-flat}
+
+-- sums by kind
+pub sum-of : (x y r : ByKind) → SumOf x y r → (t : Kind) → at r t ≡ at x t + at y t
+sum-of x y r g shared = g .shared
+sum-of x y r g (own first) = g .first
+sum-of x y r g (own second) = g .second
+
+pub fits-by : (x y : ByKind) → ((t : Kind) → at x t + at y t < 2 ^ 64) → Fits x y
+fits-by x y h = record { shared = h shared; first = h (own first); second = h (own second) }
 
 module _ (A : ℕ) (f : Losses) (s : List ℕ) (o : ByKind) (is : (t : Kind) → at o t ≡ f t s) where
   module _ (p : ℕ) (r : Weighed) (g : LeafOf o p r) where
@@ -38,7 +46,7 @@ module _ (A : ℕ) (f : Losses) (s : List ℕ) (o : ByKind) (is : (t : Kind) →
       pub absent-members : (t : Kind) → at (r .rows) t ≡ length (membersAt A d f t s)
       absent-members t = leaf-members t ∙ ap length (sym (members-flat A f s some flat d t))
 
-  pub leaf-mark : one (not (leb (o .shared) (o .first + o .second))) ≡ markAt A zero f s
+  pub leaf-mark : leafMark o ≡ markAt A zero f s
   leaf-mark = rw (is shared, is (own first), is (own second)) (sym (mark-leaf A f s))
 
   module _ (d : ℕ) (children : Weighed) (less : (t : Kind) → at (children .least) t ≡ lessBelow A d f s t) (some : (t : Kind) → at (children .rows) t ≡ membersBelow A d f s t) where
@@ -68,9 +76,7 @@ module _ (A : ℕ) (f : Losses) (s : List ℕ) (o : ByKind) (is : (t : Kind) →
       split-members (own first) = own-members (r .rows .first) first (g .first-rows)
       split-members (own second) = own-members (r .rows .second) second (g .second-rows)
 
-    pub split-mark : choice (o .shared) (min (o .first) (children .least .first) + min (o .second) (children .least .second)) (children .least .shared)
-        + 3 * one (not (leb (o .first) (children .least .first))) + 6 * one (not (leb (o .second) (children .least .second)))
-        ≡ markAt A (suc d) f s
+    pub split-mark : splitMark o (children .least) ≡ markAt A (suc d) f s
     split-mark =
         rw (is shared, is (own first), is (own second), less shared, less (own first), less (own second), ← (least-split A d f s first), ← (least-split A d f s second))
         (sym (mark-split A d f s))

@@ -1,18 +1,17 @@
 -- The writing of the rows at a context and below it. Assumes nothing.
 use Prim.Native.Nat.{ℕ, zero, suc, _+_, _-_, _≤_}
 use mathlib.Core.Path.{_≡_, refl, sym, ap, ap₂, subst, _∙_}
-use mathlib.Core.Bool.{Bool, true, false, cond, not}
+use mathlib.Core.Bool.{Bool, true, false, cond}
 use mathlib.Core.List.{List, _++_}
 use native.Mathlib.Omega.{arith}
 use lib.ListN.{length, getD, length-append}
-use lib.Dec.{T, leb}
+use lib.Dec.{T}
 use Rattle.numbers.specs.Limits.{mostCounted}
-use Rattle.numbers.specs.Sum.{one}
 use Rattle.numbers.proofs.Tests.{of-true}
 use Rattle.contexts.specs.Keys.{keyOf, deskOf}
 use Rattle.contexts.specs.Sitting.{first, second, Sitting, table, rowIn, sumOf}
 use Rattle.contexts.proofs.KeyOrder.{deskOf-key, contextOf-key}
-use Rattle.estimate.specs.Trees.{shared, own}
+use Rattle.estimate.specs.Trees.{own}
 use Rattle.estimate.specs.Recursion.{Losses, losses}
 use Rattle.estimate.specs.declared.ByKind.{ByKind}
 use Rattle.rows.specs.Members.{gather}
@@ -27,6 +26,7 @@ use Rattle.weighing.specs.declared.Way.{Way}
 use Rattle.weighing.specs.Sitting.{sittingIn}
 use Rattle.weighing.specs.Trees.{markAt, markOf}
 use Rattle.weighing.specs.Plans.{wanted, goesOn, planOf, hereOf}
+use Rattle.weighing.specs.Visit.{leafMark}
 use Rattle.weighing.specs.Writing.{sheetFor, Written, numbersHere, keptMark, keptPlan, CanWrite, CanWriteHere, WroteNumbers}
 use Rattle.weighing.proofs.Cursor.{within}
 use Rattle.weighing.proofs.Flat.{mark-flat}
@@ -58,7 +58,7 @@ module _ (k : Desk) (costs : ByKind) (n : ℕ) (l kept : List ℕ) (top : ℕ) (
       ∙ ap (markOf (k .symbols) (k .depth) f) (h .1)
       ∙ rw (contextOf-key (k .number) s w, e)
 
-  mark-absent : held (keyOf (k .number) s) (records n l) ≡ false → one (not (leb (costs .shared) (costs .first + costs .second))) ≡ markAt (k .symbols) (c .left) f s
+  mark-absent : held (keyOf (k .number) s) (records n l) ≡ false → leafMark costs ≡ markAt (k .symbols) (c .left) f s
   mark-absent off =
       choosing.leaf-mark (k .symbols) f s costs (absent-losses k n l (q .weighable) costs (q .priced) s off)
       ∙ sym (mark-flat (k .symbols) f s (q .weighable .some) (absent-flat k n l (q .weighable) costs (q .priced) s off) (c .left))
@@ -67,7 +67,7 @@ module _ (k : Desk) (costs : ByKind) (n : ℕ) (l kept : List ℕ) (top : ℕ) (
   mark-is = rw (q .key-is) (go (held (keyOf (k .number) s) (records n l)) refl)
     where
       go : (b : Bool) → held (keyOf (k .number) s) (records n l) ≡ b
-          → cond b (getD kept (rank (keyOf (k .number) s) (keys (records n l))) 0) (one (not (leb (costs .shared) (costs .first + costs .second)))) ≡ markAt (k .symbols) (c .left) f s
+          → cond b (getD kept (rank (keyOf (k .number) s) (keys (records n l))) 0) (leafMark costs) ≡ markAt (k .symbols) (c .left) f s
       go true e = mark-held (of-true (held (keyOf (k .number) s) (records n l)) e)
       go false e = mark-absent e
 

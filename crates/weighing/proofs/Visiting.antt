@@ -1,16 +1,15 @@
--- A visit to one context, and its turns over the children. Assumes nothing.
+-- A visit to one context: what stands for one that is not held, and what one that is held gives at depth D. Assumes nothing.
 use Prim.Native.Nat.{ℕ, _+_, _-_, _*_, _≤_, _<_}
-use mathlib.Core.Path.{_≡_, sym, ap, subst, _∙_}
-use mathlib.Core.Bool.{true, false, not}
+use mathlib.Core.Path.{_≡_, sym, ap, subst, subst₂, _∙_}
+use mathlib.Core.Bool.{true, false}
 use mathlib.Core.List.{List}
 use native.Mathlib.Omega.{arith}
-use lib.ListN.{length, getD, set}
-use lib.Dec.{T, eqb, leb, eqb→eq}
+use lib.ListN.{length, getD}
+use lib.Dec.{T, eqb, eqb→eq}
 use Rattle.numbers.specs.Limits.{mostCounted}
-use Rattle.numbers.specs.Sum.{one}
 use Rattle.numbers.proofs.Tests.{T?, of-true}
 use Rattle.numbers.proofs.Orders.{Order, less, same, more, order, eq→eqb}
-use Rattle.contexts.specs.Keys.{keyOf}
+use Rattle.contexts.specs.Keys.{keyOf, contextOf}
 use Rattle.contexts.proofs.KeyOrder.{contextOf-key}
 use Rattle.contexts.specs.Sitting.{first, second, table, rowIn, sumOf}
 use Rattle.estimate.specs.Trees.{Kind, shared, own, from}
@@ -27,7 +26,7 @@ use Rattle.weighing.specs.declared.Context.{Context}
 use Rattle.weighing.specs.declared.Weighed.{Weighed}
 use Rattle.weighing.specs.Sitting.{sittingIn}
 use Rattle.weighing.specs.Trees.{markAt, markOf}
-use Rattle.weighing.specs.Visit.{Stands, Ready, Visited, Countable, Small, LeafOf}
+use Rattle.weighing.specs.Visit.{Stands, Ready, CanVisit, Visited, Countable, Small, LeafOf, LeafHere, leafMark}
 use Rattle.weighing.proofs.Cursor.{rank-own, within, past-absent, past-deepest}
 use Rattle.weighing.proofs.Counts.{table-here, table-small, costs-small, losses-here, small-here, absent-flat, absent-losses}
 use Rattle.weighing.proofs.Choosing as choosing
@@ -52,9 +51,6 @@ held-there key n p l up at h = go (order p n)
 module _ {k : Desk} {costs : ByKind} {n : ℕ} {l s : List ℕ} {c : Context} {p : ℕ} (q : Ready k costs n l s c p) where
   abbrev f : Losses
   f = losses (sittingIn k (records n l))
-
-  abbrev ks : List ℕ
-  ks = keys (records n l)
 
   -- the walk has come to its place
   pub stands : Stands n l p (c .key)
@@ -88,50 +84,62 @@ module _ {k : Desk} {costs : ByKind} {n : ℕ} {l s : List ℕ} {c : Context} {p
       let small = costs-small k n l (q .weighable) costs (q .priced) in
       record { first = omega (arith, small (own first)); second = omega (arith, small (own second)) }
 
-  -- ---- a context that is held
-  module _ (held-here : held (c .key) (records n l) ≡ true) where
-    on : T (held (keyOf (k .number) s) (records n l))
-    on = of-true (held (keyOf (k .number) s) (records n l)) (subst (λ (z : ℕ). held z (records n l) ≡ true) (q .key-is) held-here)
+-- ---- a context that is held
 
-    pub there : (p < n) × (getD l (width * p) 0 ≡ keyOf (k .number) s)
-    there = held-there (keyOf (k .number) s) n p l (q .weighable .standing .rising) (q .place) on
+module _ {k : Desk} {costs : ByKind} {n : ℕ} {l old : List ℕ} {c : Context} {p : ℕ} (v : CanVisit k costs n l old c p) where
+  abbrev s : List ℕ
+  s = contextOf (c .key)
 
-    table-is : tableOf (recordAt p l) ≡ table (sittingIn k (records n l)) s
-    table-is = table-here k n l (q .weighable) s (q .context) p (there .0) (there .1)
+  abbrev q : Ready k costs n l s c p
+  q = v .ready
 
-    pub countable : Countable l p costs
-    countable =
-        let small = costs-small k n l (q .weighable) costs (q .priced) in
-        record {
-          fits = omega (arith, there .0, q .weighable .standing .fits);
-          counted = subst (λ (z : List (List ℕ)). sumOf (rowIn z first) + sumOf (rowIn z second) ≤ mostCounted) (sym table-is) (table-small k n l (q .weighable) s);
-          shared-cost = small shared;
-          first-cost = small (own first);
-          second-cost = small (own second);
-        }
+  on : T (held (keyOf (k .number) s) (records n l))
+  on = of-true (held (keyOf (k .number) s) (records n l)) (subst (λ (z : ℕ). held z (records n l) ≡ true) (q .key-is) (v .on))
 
-    pub own-losses : {o : ByKind} → LossesOf (tableOf (recordAt p l)) costs o → (t : Kind) → at o t ≡ f t s
-    own-losses {o} g = losses-here k n l (q .weighable) costs (q .priced) s o (subst (λ (z : List (List ℕ)). LossesOf z costs o) table-is g)
+  pub there : (p < n) × (getD l (width * p) 0 ≡ keyOf (k .number) s)
+  there = held-there (keyOf (k .number) s) n p l (q .weighable .standing .rising) (q .place) on
 
-    pub own-small : {o : ByKind} → LossesOf (tableOf (recordAt p l)) costs o → Small o
-    own-small {o} g = small-here k n l (q .weighable) costs (q .priced) s o (own-losses g)
+  table-is : tableOf (recordAt p l) ≡ table (sittingIn k (records n l)) s
+  table-is = table-here k n l (q .weighable) s (q .context) p (there .0) (there .1)
 
-    pub past-own : p + 1 ≡ rank (keyOf (k .number) s + 1) ks
-    past-own = ap (λ (z : ℕ). z + 1) (q .place) ∙ sym (rank-own (keyOf (k .number) s) 0 (records n l) (q .weighable .standing .rising) on)
+  pub countable : Countable l p costs
+  countable =
+      let small = costs-small k n l (q .weighable) costs (q .priced) in
+      record {
+        fits = omega (arith, there .0, q .weighable .standing .fits);
+        counted = subst (λ (z : List (List ℕ)). sumOf (rowIn z first) + sumOf (rowIn z second) ≤ mostCounted) (sym table-is) (table-small k n l (q .weighable) s);
+        shared-cost = small shared;
+        first-cost = small (own first);
+        second-cost = small (own second);
+      }
 
-    pub mark-there : (d v : ℕ) → length s + d ≡ k .depth → v ≡ markAt (k .symbols) d f s → v ≡ markOf (k .symbols) (k .depth) f (getD l (width * p) 0)
-    mark-there d v h e = e ∙ sym (mark-here d h) ∙ ap (markOf (k .symbols) (k .depth) f) (sym (there .1))
+  pub own-losses : {o : ByKind} → LossesOf (tableOf (recordAt p l)) costs o → (t : Kind) → at o t ≡ f q t s
+  own-losses {o} g = losses-here k n l (q .weighable) costs (q .priced) s o (subst (λ (z : List (List ℕ)). LossesOf z costs o) table-is g)
 
-    -- with no symbol left
-    pub answer-leaf : {o : ByKind} → ((t : Kind) → at o t ≡ f t s) → c .left ≡ 0 → (old : List ℕ) → n ≤ length old → {v : ℕ} → v ≡ one (not (leb (o .shared) (o .first + o .second)))
-        → {r : Weighed} → LeafOf o (p + 1) r → Visited k n l s (c .left) p old (set old p v) r
-    answer-leaf {o} is z old long {v} e {r} g = subst (λ (d : ℕ). Visited k n l s d p old (set old p v) r) (sym z) (record {
-      least = choosing.leaf-least (k .symbols) f s o is (p + 1) r g;
-      rows = choosing.leaf-members (k .symbols) f s o is (p + 1) r g;
-      past = g .onward ∙ past-own ∙ past-deepest k n l (q .weighable) s (q .context) (omega (arith, q .left-is));
-      marked = written-mark k n l p (r .next) v old old long (there .0) mark (record { is = λ j lo hi. absurd (omega (arith, g .onward)) });
-      apart = written-apart k n l p (r .next) v old old long (there .0) mark (omega (arith, g .onward)) (apart-none (p + 1) (r .next) old);
-    })
-      where
-        mark : v ≡ markOf (k .symbols) (k .depth) f (getD l (width * p) 0)
-        mark = mark-there 0 v (omega (arith, q .left-is)) (e ∙ choosing.leaf-mark (k .symbols) f s o is)
+  pub own-small : {o : ByKind} → LossesOf (tableOf (recordAt p l)) costs o → Small o
+  own-small {o} g = small-here k n l (q .weighable) costs (q .priced) s o (own-losses g)
+
+  pub kept-there : p < length old
+  kept-there = omega (arith, there .0, v .beside)
+
+  pub past-own : p + 1 ≡ rank (keyOf (k .number) s + 1) (keys (records n l))
+  past-own = ap (λ (z : ℕ). z + 1) (q .place) ∙ sym (rank-own (keyOf (k .number) s) 0 (records n l) (q .weighable .standing .rising) on)
+
+  pub mark-there : (d m : ℕ) → length s + d ≡ k .depth → m ≡ markAt (k .symbols) d (f q) s → m ≡ markOf (k .symbols) (k .depth) (f q) (getD l (width * p) 0)
+  mark-there d m h e = e ∙ sym (mark-here q d h) ∙ ap (markOf (k .symbols) (k .depth) (f q)) (sym (there .1))
+
+  -- with no symbol left
+  pub answer-leaf : {o : ByKind} → LossesOf (tableOf (recordAt p l)) costs o → c .left ≡ 0 → {new : List ℕ} {r : Weighed} → LeafHere o p old new r → Visited k n l s (c .left) p old new r
+  answer-leaf {o} lost z {new} {r} w = subst₂ (λ (d : ℕ) (after : List ℕ). Visited k n l s d p old after r) (sym z) (sym (w .mark)) (record {
+    least = choosing.leaf-least (k .symbols) (f q) s o is (p + 1) r (w .is);
+    rows = choosing.leaf-members (k .symbols) (f q) s o is (p + 1) r (w .is);
+    past = w .is .onward ∙ past-own ∙ past-deepest k n l (q .weighable) s (q .context) (omega (arith, q .left-is));
+    marked = written-mark k n l p (r .next) (leafMark o) old old (v .beside) (there .0) mark (record { is = λ j lo hi. absurd (omega (arith, w .is .onward)) });
+    apart = written-apart k n l p (r .next) (leafMark o) old old (v .beside) (there .0) mark (omega (arith, w .is .onward)) (apart-none (p + 1) (r .next) old);
+  })
+    where
+      is : (t : Kind) → at o t ≡ f q t s
+      is = own-losses lost
+
+      mark : leafMark o ≡ markOf (k .symbols) (k .depth) (f q) (getD l (width * p) 0)
+      mark = mark-there 0 (leafMark o) (omega (arith, q .left-is)) (choosing.leaf-mark (k .symbols) (f q) s o is)

@@ -1,6 +1,6 @@
 -- A whole weighing: the visit to the empty context of a desk. Assumes nothing.
 use Prim.Native.Nat.{ℕ, _+_, _*_, _≤_}
-use mathlib.Core.Path.{_≡_, refl, sym, ap, subst, _∙_}
+use mathlib.Core.Path.{_≡_, refl, sym, ap, subst, subst₂, _∙_}
 use mathlib.Core.Bool.{true, false}
 use mathlib.Core.List.{List, [], _++_}
 use native.Mathlib.Omega.{arith}
@@ -31,32 +31,35 @@ use Rattle.weighing.specs.Weighs.{Decided, Weighs}
 use Rattle.weighing.specs.Plans.{wanted}
 use Rattle.weighing.specs.Writing.{sheetFor, Written, rowsFrom, CanWrite, CanReport, Reports}
 
-module _ (k : Desk) (n : ℕ) (l : List ℕ) (w : Weighable k n l) where
-  root-key : k .number * deskSpan ≡ keyOf (k .number) []
-  root-key = let z = digits-nil deepest in omega arith
+root-key : (k : Desk) → k .number * deskSpan ≡ keyOf (k .number) []
+root-key k = let z = digits-nil deepest in omega arith
 
-  pub root-is : contextOf (k .number * deskSpan) ≡ []
-  unfolding isContext
-  root-is = ap contextOf root-key ∙ contextOf-key (k .number) [] tt
+pub root-is : (k : Desk) → contextOf (k .number * deskSpan) ≡ []
+unfolding isContext
+root-is k = ap contextOf (root-key k) ∙ contextOf-key (k .number) [] tt
 
-  pub root-ready : (costs : ByKind) → CostsOf (k .symbols) (k .n) (k .m) costs → (p : ℕ) → p ≡ rank (k .number * deskSpan) (keys (records n l))
-      → Ready k costs n l [] (record { key = k .number * deskSpan; span = deskSpan; left = k .depth }) p
+module _ {k : Desk} {n : ℕ} {l : List ℕ} (w : Weighable k n l) {p : ℕ} (at : p ≡ rank (k .number * deskSpan) (keys (records n l))) where
+  -- the walk begins at the empty context ..
+  pub root-ready : {costs : ByKind} → CostsOf (k .symbols) (k .n) (k .m) costs → Ready k costs n l (contextOf (k .number * deskSpan)) (record { key = k .number * deskSpan; span = deskSpan; left = k .depth }) p
   unfolding isContext
-  root-ready costs priced p e = record {
+  root-ready {costs} priced = subst (λ (s : List ℕ). Ready k costs n l s (record { key = k .number * deskSpan; span = deskSpan; left = k .depth }) p) (sym (root-is k)) (record {
     weighable = w;
     priced = priced;
     context = tt;
-    key-is = root-key;
+    key-is = root-key k;
     span-is = refl;
     left-is = omega arith;
-    place = e ∙ ap (λ (z : ℕ). rank z (keys (records n l))) root-key;
-  }
+    place = at ∙ ap (λ (z : ℕ). rank z (keys (records n l))) (root-key k);
+  })
 
-  -- the records between the ranks are those of the desk
-  module _ (p : ℕ) (at : p ≡ rank (k .number * deskSpan) (keys (records n l))) (old kept : List ℕ) (long : n ≤ length kept) (r : Weighed) (g : Visited k n l [] (k .depth) p old kept r) where
-    decided : Decided k n l kept
+  -- .. and the records that it passes are those of the desk
+  module _ {old new : List ℕ} {r : Weighed} (gave : Visited k n l (contextOf (k .number * deskSpan)) (k .depth) p old new r) (beside : n ≤ length new) where
+    g : Visited k n l [] (k .depth) p old new r
+    g = subst (λ (s : List ℕ). Visited k n l s (k .depth) p old new r) (root-is k) gave
+
+    decided : Decided k n l new
     decided = record {
-      beside = long;
+      beside = beside;
       is = λ j lt of. g .marked .is j
           (rw at (up-to-middle n j (k .number * deskSpan) l lt (omega arith)))
           (rw (g .past, root-end) (above-middle n j (k .number * deskSpan + deskSpan) l lt (w .standing .rising) (omega arith)));
@@ -65,9 +68,9 @@ module _ (k : Desk) (n : ℕ) (l : List ℕ) (w : Weighable k n l) where
         root-end : endOf (k .number) [] ≡ k .number * deskSpan + deskSpan
         root-end = let z = digits-nil deepest in omega arith
 
-    pub weighed : Weighs k n l kept (record { first = r .least .first; second = r .least .second; joint = r .least .shared; rows = r .rows .shared })
+    pub weighed : {kept : List ℕ} {x : Weighed} → kept ≡ new → x ≡ r → Weighs k n l kept (record { first = x .least .first; second = x .least .second; joint = x .least .shared; rows = x .rows .shared })
     unfolding leastAt membersAt
-    weighed = record {
+    weighed e d = subst₂ (λ (kept : List ℕ) (x : Weighed). Weighs k n l kept (record { first = x .least .first; second = x .least .second; joint = x .least .shared; rows = x .rows .shared })) (sym e) (sym d) (record {
       first-least = g .least (own first);
       second-least = g .least (own second);
       joint-least = g .least shared;
@@ -76,8 +79,9 @@ module _ (k : Desk) (n : ℕ) (l : List ℕ) (w : Weighable k n l) where
           ∙ ap length (walk-all (k .symbols) (k .depth) (losses (sittingIn k (records n l))))
           ∙ sym (length-map (members (k .symbols) (k .depth) (estimateOf (sittingIn k (records n l)))) (rowOf (sittingIn k (records n l))));
       decided = decided;
-    }
+    })
 
+module _ (k : Desk) (n : ℕ) (l : List ℕ) (w : Weighable k n l) where
   -- ---- the whole report written
 
   abbrev pub rootSpot : Spot
@@ -94,7 +98,7 @@ module _ (k : Desk) (n : ℕ) (l : List ℕ) (w : Weighable k n l) where
     priced = priced;
     decided = q .decided;
     context = tt;
-    key-is = root-key;
+    key-is = root-key k;
     span-is = refl;
     left-is = omega arith;
     code-is = refl;

@@ -1,13 +1,14 @@
 -- What a visit to one context asks and gives. Assumes nothing.
 use mathlib.Core.Path.{_≡_}
-use mathlib.Core.Bool.{cond}
+use mathlib.Core.Bool.{true, cond, not}
 use mathlib.Core.List.{List}
 use Prim.Native.Nat.{ℕ, suc, _+_, _-_, _*_, _^_, _≤_, _<_, min}
-use lib.ListN.{length, getD}
+use lib.ListN.{length, getD, set}
 use lib.Dec.{T, leb}
 use Rattle.numbers.specs.Limits.{deepest, mostSymbols, mostCounted, topLog}
+use Rattle.numbers.specs.Sum.{one}
 use Rattle.contexts.specs.Context.{isContext}
-use Rattle.contexts.specs.Keys.{digits, deskSpan, keyOf}
+use Rattle.contexts.specs.Keys.{digits, deskSpan, keyOf, contextOf}
 use Rattle.contexts.specs.Sitting.{first, second, rowIn, sumOf}
 use Rattle.estimate.specs.Trees.{Kind}
 use Rattle.estimate.specs.Recursion.{losses}
@@ -15,12 +16,12 @@ use Rattle.estimate.specs.Table.{CostsOf}
 use Rattle.estimate.specs.declared.ByKind.{ByKind}
 use Rattle.estimate.proofs.Tables.{at}
 use Rattle.records.specs.Records.{width, records, keys}
-use Rattle.records.specs.Held.{rank, recordAt, tableOf, Standing}
+use Rattle.records.specs.Held.{rank, held, recordAt, tableOf, Standing}
 use Rattle.weighing.specs.declared.Desk.{Desk}
 use Rattle.weighing.specs.declared.Context.{Context}
 use Rattle.weighing.specs.declared.Weighed.{Weighed}
 use Rattle.weighing.specs.Sitting.{sittingIn, Weighable}
-use Rattle.weighing.specs.Trees.{leastAt, membersAt, markOf}
+use Rattle.weighing.specs.Trees.{leastAt, membersAt, choice, markOf}
 
 -- ---- where a visit stands
 
@@ -45,7 +46,7 @@ pub record Countable (l : List ℕ) (p : ℕ) (costs : ByKind) : Type 0 where
   pub first-cost : costs .first ≤ mostSymbols * topLog
   pub second-cost : costs .second ≤ mostSymbols * topLog
 
--- what a visit to the context s of a desk asks
+-- the walk has come to the context s of a desk
 pub record Ready (k : Desk) (costs : ByKind) (n : ℕ) (l : List ℕ) (s : List ℕ) (c : Context) (p : ℕ) : Type 0 where
   pub weighable : Weighable k n l
   pub priced : CostsOf (k .symbols) (k .n) (k .m) costs
@@ -54,6 +55,12 @@ pub record Ready (k : Desk) (costs : ByKind) (n : ℕ) (l : List ℕ) (s : List 
   pub span-is : c .span ≡ spanOf s
   pub left-is : length s + c .left ≡ k .depth
   pub place : p ≡ rank (keyOf (k .number) s) (keys (records n l))
+
+-- what a visit to a context asks: the walk has come to it, it is held, and a number stands beside each record
+pub record CanVisit (k : Desk) (costs : ByKind) (n : ℕ) (l kept : List ℕ) (c : Context) (p : ℕ) : Type 0 where
+  pub ready : Ready k costs n l (contextOf (c .key)) c p
+  pub on : held (c .key) (records n l) ≡ true
+  pub beside : n ≤ length kept
 
 -- ---- what it gives
 
@@ -107,6 +114,26 @@ pub record SplitOf (own : ByKind) (children r : Weighed) : Type 0 where
       (cond (leb (r .least .first + r .least .second) (children .least .shared)) (r .rows .first + r .rows .second) (children .rows .shared))
   pub onward : r .next ≡ children .next
 
+-- the decision at a leaf with these losses ..
+abbrev pub leafMark : ByKind → ℕ
+leafMark own = one (not (leb (own .shared) (own .first + own .second)))
+
+-- .. and over children that lose this together
+abbrev pub splitMark : ByKind → ByKind → ℕ
+splitMark own below =
+    choice (own .shared) (min (own .first) (below .first) + min (own .second) (below .second)) (below .shared)
+    + 3 * one (not (leb (own .first) (below .first))) + 6 * one (not (leb (own .second) (below .second)))
+
+-- a leaf at place p, where its decision is kept
+pub record LeafHere (own : ByKind) (p : ℕ) (before after : List ℕ) (r : Weighed) : Type 0 where
+  pub mark : after ≡ set before p (leafMark own)
+  pub is : LeafOf own (p + 1) r
+
+-- a leaf or a split at place p, where its decision is kept
+pub record SplitHere (own : ByKind) (p : ℕ) (children : Weighed) (before after : List ℕ) (r : Weighed) : Type 0 where
+  pub mark : after ≡ set before p (splitMark own (children .least))
+  pub is : SplitOf own children r
+
 -- the sums of two, kind by kind
 pub record SumOf (x y r : ByKind) : Type 0 where
   pub shared : r .shared ≡ x .shared + y .shared
@@ -125,8 +152,24 @@ pub record NoneOf (next : ℕ) (r : Weighed) : Type 0 where
   pub rows : (t : Kind) → at (r .rows) t ≡ 0
   pub onward : r .next ≡ next
 
+-- a child more can be added
+pub record CanAdd (children w : Weighed) : Type 0 where
+  pub least : Fits (children .least) (w .least)
+  pub rows : Fits (children .rows) (w .rows)
+
 -- one child more: the sums, and where the walk goes on after it
 pub record ChildOf (children w r : Weighed) : Type 0 where
   pub least : SumOf (children .least) (w .least) (r .least)
   pub rows : SumOf (children .rows) (w .rows) (r .rows)
   pub onward : r .next ≡ w .next
+
+-- a leaf that costs this can be added ..
+pub record CanAddUnseen (costs : ByKind) (children : Weighed) : Type 0 where
+  pub small : Small costs
+  pub fits : (w : Weighed) → LeafOf costs (children .next) w → CanAdd children w
+
+-- .. and is: it stands for a child that is not held
+pub record UnseenOf (costs : ByKind) (children r : Weighed) : Type 0 where
+  pub leaf : Weighed
+  pub is : LeafOf costs (children .next) leaf
+  pub child : ChildOf children leaf r

@@ -1,12 +1,11 @@
 -- What the writing of rows asks and gives. Assumes nothing.
 use mathlib.Core.Path.{_≡_}
-use mathlib.Core.Bool.{Bool, cond, not}
+use mathlib.Core.Bool.{Bool, cond}
 use mathlib.Core.List.{List, [], _∷_, _++_, map}
 use Prim.Native.Nat.{ℕ, _+_, _^_, _≤_}
 use lib.ListN.{length, take, drop, getD}
-use lib.Dec.{T, leb}
+use lib.Dec.{T}
 use Rattle.numbers.specs.Limits.{mostCounted}
-use Rattle.numbers.specs.Sum.{one}
 use Rattle.contexts.specs.Context.{isContext, codeOf}
 use Rattle.contexts.specs.Keys.{keyOf}
 use Rattle.contexts.specs.Sitting.{first, second, Sitting, eight, rowIn, sumOf}
@@ -22,7 +21,7 @@ use Rattle.weighing.specs.declared.Plan.{Plan}
 use Rattle.weighing.specs.declared.Spot.{Spot}
 use Rattle.weighing.specs.declared.Step.{Step}
 use Rattle.weighing.specs.Sitting.{sittingIn, Weighable}
-use Rattle.weighing.specs.Visit.{spanOf, Small}
+use Rattle.weighing.specs.Visit.{spanOf, Small, leafMark}
 use Rattle.weighing.specs.Weighs.{Decided}
 use Rattle.weighing.specs.Plans.{wanted, planOf}
 
@@ -67,7 +66,7 @@ pub record CanWrite (k : Desk) (costs : ByKind) (n : ℕ) (l kept : List ℕ) (t
 
 -- the decision under a key: the one kept beside its record, or that of a leaf that costs this
 abbrev pub keptMark : ℕ → List ℕ → List ℕ → ByKind → ℕ → ℕ
-keptMark n l kept costs key = cond (held key (records n l)) (getD kept (rank key (keys (records n l))) 0) (one (not (leb (costs .shared) (costs .first + costs .second))))
+keptMark n l kept costs key = cond (held key (records n l)) (getD kept (rank key (keys (records n l))) 0) (leafMark costs)
 
 -- .. and the plan that it gives
 abbrev pub keptPlan : ℕ → List ℕ → List ℕ → ByKind → Spot → Plan

@@ -3,7 +3,7 @@
 use estimate::ByKind;
 ghost use mathlib.Core.Path.{_≡_};
 ghost use mathlib.Core.Bool.{cond, not, _&&_};
-ghost use Prim.Native.Nat.{_+_, _*_, _≤_, _<_, _^_, min};
+ghost use Prim.Native.Nat.{_+_, _≤_, _<_, _^_, min};
 ghost use lib.ListN.{length};
 ghost use lib.Dec.{leb};
 ghost use Rattle.numbers.specs.Sum.{one};
@@ -16,7 +16,7 @@ ghost use Rattle.weighing.specs.Trees.{choice};
 ghost use Rattle.weighing.specs.Plans.{goesOn, ownPlan, planOf};
 ghost use Rattle.weighing.specs.Writing.{Written, numbersIf, numbersHere, Roomy, rowsFrom, CanWrite, CanWriteHere, WroteNumbers, keptMark, CanReport, Reports};
 ghost use Rattle.weighing.specs.Weighs.{CanWeigh, Weighs};
-ghost use Rattle.weighing.specs.Visit.{Stands, Countable, Ready, Visited, Small, LeafOf, SplitOf, SumOf, Fits, NoneOf, ChildOf};
+ghost use Rattle.weighing.specs.Visit.{Stands, Countable, CanVisit, Visited, Small, LeafOf, LeafHere, SplitOf, SplitHere, SumOf, Fits, NoneOf, CanAdd, ChildOf, CanAddUnseen, UnseenOf, leafMark, splitMark};
 
 const WIDTH: usize = 24;
 
@@ -54,7 +54,11 @@ pub fn weigh(logs: &[u32], numbers: &[u32], n: usize, desk: Desk, kept: &mut [u8
         left: desk.depth,
     };
     let at = records::place_of(numbers, n, key);
-    let w = visit(logs, numbers, kept, n, desk, costs, root, at);
+    let w = if held_at(numbers, n, at, key) {
+        visit(logs, numbers, kept, n, desk, costs, root, at)
+    } else {
+        as_leaf(costs, at)
+    };
     let least = w.least;
     let rows = w.rows;
     Least {
@@ -112,8 +116,8 @@ pub struct Weighed {
     pub next: usize,
 }
 
-// The trees at a context, whose place the walk has come to. A context that is not held is answered without a descent,
-// a child that is not held without a call. The decision at each record of its block is kept beside it.
+// The trees at a held context, whose place the walk has come to. A child that is not held is answered without a call.
+// The decision at each record of the context's block is kept beside it.
 fn visit(
     logs: &[u32],
     numbers: &[u32],
@@ -124,16 +128,12 @@ fn visit(
     here: Context,
     at: usize,
 ) -> Weighed
-    requires { ⌜ AreLogs (now logs) × (n ≤ length (now kept)) × Ready desk costs n (now numbers) (contextOf (here .key)) here at ⌝ }
+    requires { ⌜ AreLogs (now logs) × CanVisit desk costs n (now numbers) (now kept) here at ⌝ }
     ensures { λ r. ⌜ Visited desk n (now (numbers .entry)) (contextOf (here .key)) (here .left) at (now (kept .entry)) (now (kept .exit)) r ⌝ }
 {
-    if !held_at(numbers, n, at, here.key) {
-        return as_leaf(costs, at);
-    }
     let own = losses_at(logs, numbers, at, costs);
     if here.left == 0 {
-        kept[at] = leaf_mark(own);
-        return as_leaf(own, at + 1);
+        return leaf_here(kept, at, own);
     }
     let span = here.span / 8;
     let mut key = here.key + 1;
@@ -147,11 +147,28 @@ fn visit(
             let w = visit(logs, numbers, kept, n, desk, costs, child, next);
             children = and_child(children, w);
         } else {
-            children = and_child(children, as_leaf(costs, next));
+            children = and_unseen(children, costs);
         }
         key += span;
         a += 1;
     }
+    split_here(kept, at, own, children)
+}
+
+// The context of the record at a place is a leaf with these losses: its decision is kept there, and the walk goes on behind it.
+fn leaf_here(kept: &mut [u8], at: usize, own: ByKind) -> Weighed
+    requires { ⌜ (at < length (now kept)) × Small own ⌝ }
+    ensures { λ r. ⌜ LeafHere own at (now (kept .entry)) (now (kept .exit)) r ⌝ }
+{
+    kept[at] = leaf_mark(own);
+    as_leaf(own, at + 1)
+}
+
+// The context of the record at a place is a leaf with these losses or a split over these children: its decision is kept there.
+fn split_here(kept: &mut [u8], at: usize, own: ByKind, children: Weighed) -> Weighed
+    requires { ⌜ (at < length (now kept)) × Small own × (children .rows .first + children .rows .second + 2 < 2 ^ 64) ⌝ }
+    ensures { λ r. ⌜ SplitHere own at children (now (kept .entry)) (now (kept .exit)) r ⌝ }
+{
     kept[at] = split_mark(own, children.least);
     as_split(own, children)
 }
@@ -247,7 +264,7 @@ fn none_yet(next: usize) -> Weighed
 
 // One child more.
 fn and_child(children: Weighed, w: Weighed) -> Weighed
-    requires { ⌜ Fits (children .least) (w .least) × Fits (children .rows) (w .rows) ⌝ }
+    requires { ⌜ CanAdd children w ⌝ }
     ensures { λ r. ⌜ ChildOf children w r ⌝ }
 {
     Weighed {
@@ -255,6 +272,14 @@ fn and_child(children: Weighed, w: Weighed) -> Weighed
         rows: plus(children.rows, w.rows),
         next: w.next,
     }
+}
+
+// One child more that is not held: a leaf that costs this stands for it, and the walk stays where it is.
+fn and_unseen(children: Weighed, costs: ByKind) -> Weighed
+    requires { ⌜ CanAddUnseen costs children ⌝ }
+    ensures { λ r. ⌜ UnseenOf costs children r ⌝ }
+{
+    and_child(children, as_leaf(costs, children.next))
 }
 
 fn plus(x: ByKind, y: ByKind) -> ByKind
@@ -296,7 +321,7 @@ fn joint_rows(leaf: u64, apart: u64, split: u64, both: u64, below: u64) -> u64
 // The decision at a leaf with these losses.
 fn leaf_mark(own: ByKind) -> u8
     requires { ⌜ Small own ⌝ }
-    ensures { λ r. ⌜ r ≡ one (not (leb (own .shared) (own .first + own .second))) ⌝ }
+    ensures { λ r. ⌜ r ≡ leafMark own ⌝ }
 {
     more(own.shared, own.first + own.second)
 }
@@ -304,7 +329,7 @@ fn leaf_mark(own: ByKind) -> u8
 // The decision at a context over children that lose this together.
 fn split_mark(own: ByKind, below: ByKind) -> u8
     requires { ⌜ Small own ⌝ }
-    ensures { λ r. ⌜ r ≡ choice (own .shared) (min (own .first) (below .first) + min (own .second) (below .second)) (below .shared) + 3 * one (not (leb (own .first) (below .first))) + 6 * one (not (leb (own .second) (below .second))) ⌝ }
+    ensures { λ r. ⌜ r ≡ splitMark own below ⌝ }
 {
     let apart = smaller(own.first, below.first) + smaller(own.second, below.second);
     choice_of(own.shared, apart, below.shared)

@@ -1,12 +1,11 @@
--- `weighing::weigh` meets its contract: it is the visit to the empty context. Assumes nothing.
-use mathlib.Core.Path.{_≡_, sym, subst}
-use mathlib.Core.List.{List}
-use Prim.Native.Nat.{ℕ, _*_}
+-- `weighing::weigh` meets its contract: it is the visit to the empty context, where that is held. Assumes nothing.
+use mathlib.Core.Path.{sym, ap, _∙_}
+use mathlib.Core.Logic.{⊎-elim}
 use native.Mathlib.Omega.{arith}
+use lib.ListN.{length}
 use borrow.Author.Needs.{needs}
-use Rattle.contexts.specs.Keys.{deskSpan}
-use Rattle.weighing.specs.Visit.{Ready, Visited}
-use Rattle.weighing.proofs.Whole as whole
+use Rattle.weighing.proofs.Visiting.{bare-small, answer-absent}
+use Rattle.weighing.proofs.Whole.{root-ready, weighed}
 use Rattle.weighing.proofs.weigh.Statement.{statement}
 use Rattle.weighing.proofs.weigh.Tie as tie
 
@@ -19,38 +18,38 @@ mul-key c = search needs
 place-of-requires : tie.Need-place-of-requires
 place-of-requires c κs = search needs
 
+held-at-requires : tie.Need-held-at-requires
+held-at-requires c κs = search needs
+
 visit-requires : tie.Need-visit-requires
 visit-requires c κs =
-    let s = c .before .before .before .before .before .before .before in
-    let x = s .args in
-    let p = c .before .place-of in
-    let costs = c .before .before .before .costs-of in
-    let w = s .pre .1 .weighable in (
-      s .pre .0,
-      s .pre .1 .beside,
-      subst
-          (λ (u : List ℕ). Ready (x .desk) (costs .result) (x .n) (x .numbers .now) u (record { key = x .desk .number * deskSpan; span = deskSpan; left = x .desk .depth }) (p .result))
-          (sym (whole.root-is (x .desk) (x .n) (x .numbers .now) w))
-          (whole.root-ready (x .desk) (x .n) (x .numbers .now) w (costs .result) (costs .ensures) (p .result) (p .ensures .at)),
-    )
+    let h = c .before .before in
+    let o = h .before .before .before in
+    let s = o .before .before .before .before in
+    (s .pre .0, record { ready = root-ready (s .pre .1 .weighable) (h .before .place-of .ensures .at) (o .costs-of .ensures); on = sym (h .held-at .ensures) ∙ c .before .if1 .taken; beside = s .pre .1 .beside })
+
+as-leaf-requires : tie.Need-as-leaf-requires
+as-leaf-requires c κs =
+    let h = c .before in
+    let o = h .before .before .before in
+    bare-small (root-ready (o .before .before .before .before .pre .1 .weighable) (h .before .place-of .ensures .at) (o .costs-of .ensures))
 
 same-length : tie.Need-same-length
-same-length c = search needs
+same-length c = ⊎-elim (λ v. ap length (v .5) ∙ v .2 .kept .1 .1 .0) (λ v. ap length (v .2)) (c .before .before .if1 .came)
 
 returns : tie.Need-returns
 returns c =
-    let v = c .before .before .before .before in
-    let s = v .before .before .before .before .before .before .before .before in
-    let x = s .args in
-    let p = v .before .before .place-of in
+    let h = c .before .before .before in
+    let o = h .before .before .before in
+    let s = o .before .before .before .before in
     let w = s .pre .1 .weighable in
-    whole.weighed (x .desk) (x .n) (x .numbers .now) w (p .result) (p .ensures .at) (x .kept .now) (v .visit .last .1 .1 .0) (omega (arith, v .visit .kept .1 .1 .0, s .pre .1 .beside)) (v .visit .result)
-    (subst
-    (λ (u : List ℕ). Visited (x .desk) (x .n) (x .numbers .now) u (x .desk .depth) (p .result) (x .kept .now) (v .visit .last .1 .1 .0) (v .visit .result))
-    (whole.root-is (x .desk) (x .n) (x .numbers .now) w)
-    (v .visit .ensures))
+    let at = h .before .place-of .ensures .at in
+    ⊎-elim
+    (λ v. weighed w at (v .2 .ensures) (omega (arith, v .2 .kept .1 .1 .0, s .pre .1 .beside)) (v .5) (v .6))
+    (λ v. weighed w at (answer-absent (root-ready w at (o .costs-of .ensures)) (sym (h .held-at .ensures) ∙ v .0 .left) (s .args .kept .now) (v .1 .ensures)) (s .pre .1 .beside) (v .2) (v .3))
+    (c .before .before .if1 .came)
 
 pub weigh-spec : {M : Type 1} → statement M
 weigh-spec =
     tie.close
-    (tie.spec costs-of-requires mul-key place-of-requires visit-requires same-length returns)
+    (tie.spec costs-of-requires mul-key place-of-requires held-at-requires visit-requires as-leaf-requires same-length returns)
