@@ -133,3 +133,21 @@ uint32_t plain_report(trie *t, uint32_t *sheet, int64_t *score) {
     *score = -b.loss[0];
     return b.rows[0];
 }
+
+// ---- the chart question
+
+uint32_t plain_chart(const trie *t, uint32_t length, uint32_t code, uint32_t symbol, double shares[3]) {
+    uint32_t at = ROOT, seen = 0;
+    for (uint32_t j = 0; j < length; j++, code >>= 3)
+        if (!(at = t->nodes[at].child[code & 7])) return 0;
+    for (uint32_t i = 0; i < 2; i++) {
+        const uint32_t *count = t->nodes[at].count[i];
+        uint32_t total = 0;
+        for (uint32_t a = 0; a < t->alphabet; a++) total += count[a];
+        if (total == 0) continue;
+        seen += 1 + i;
+        shares[i] = (double)count[symbol] / total;
+    }
+    if (seen == 3) shares[2] = shares[0] - shares[1];
+    return seen;
+}

@@ -20,5 +20,7 @@ void plain_start(trie *t, uint32_t alphabet, uint32_t depth);
 void plain_feed_all(trie *t, uint32_t sample, const uint8_t *symbols, uint32_t many);
 // Writes the rows at the beginning of the sheet; answers how many.
 uint32_t plain_report(trie *t, uint32_t *sheet, int64_t *score);
+// Which samples saw a context (1 the first, 2 the second, 3 both), and a symbol's shares in it and their difference.
+uint32_t plain_chart(const trie *t, uint32_t length, uint32_t code, uint32_t symbol, double shares[3]);
 // Computes the logarithms. To be called once.
 void plain_logarithms(void);
