@@ -1,4 +1,6 @@
 pub mod Telling
 pub mod FewFeeds
+pub mod Numbers
 pub mod Accepted
+pub mod Refused
 pub mod Settled
