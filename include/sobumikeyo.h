@@ -18,7 +18,7 @@
  * null, also where the length is 0. What is written may overlap no other argument.
  *
  * Link with libsobumikeyo.a. What each function promises is written down in
- * crates/sobumikeyo/specs/Told.antt, and its code is proved to keep it.
+ * crates/told/specs/Told.antt, and its code is proved to keep it.
  */
 #ifndef SOBUMIKEYO_H
 #define SOBUMIKEYO_H

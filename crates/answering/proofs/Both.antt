@@ -13,7 +13,7 @@ use Rattle.replay.specs.Machine.{opening, atDesk, verdict, move, shift, settle,
 use Rattle.rules.specs.Rules.{done, rules}
 use Rattle.rules.specs.Strings.{sittingFor}
 use Rattle.rules.proofs.TrueCounts.{stands-fresh}
-use Rattle.feeding.specs.Run.{Run, fedRun}
+use Rattle.calls.specs.Run.{Run, fedRun}
 use Rattle.sitting_file.specs.Samples.{InLimits, Holds, firstOf, secondOf}
 use Rattle.sitting_file.specs.declared.Shape.{Shape}
 use Rattle.answering.specs.Judgement.{roomMade, openingOf, stringsIn}

@@ -20,8 +20,8 @@ use Rattle.rules.specs.Feed.{fed, pastReservation}
 use Rattle.rules.specs.Strings.{push, sittingFor, StandsFor}
 use Rattle.rules.proofs.TrueCounts.{stands-fed}
 use Rattle.rules.proofs.OwnReport.{many-same}
-use Rattle.feeding.specs.Run.{Run, feeding, fedRun}
-use Rattle.feeding.specs.Run as run
+use Rattle.calls.specs.Run.{Run, feeding, fedRun}
+use Rattle.calls.specs.Run as run
 use Rattle.sitting_file.specs.Samples.{Below}
 use Rattle.answering.proofs.Growing.{pushed, held-pushed}
 

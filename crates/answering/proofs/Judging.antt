@@ -10,13 +10,12 @@ use Rattle.replay.specs.Table.{Line, Outcome, refused, answered, verdictOf}
 use Rattle.replay.specs.Machine.{asking, atDesk, verdict, answerOf}
 use Rattle.rules.specs.Report.{Reported, report}
 use Rattle.rules.specs.Rules.{done, reporting, reported, rules}
-use Rattle.calls.specs.Refusals.{refusalNumber, reportOf}
+use Rattle.calls.specs.Refusals.{refusalNumber, reportOf, endingOf}
 use Rattle.calls.specs.Promises.{Reports}
 use Rattle.calls.specs.declared.Refusal.{Refusal}
 use Rattle.calls.specs.declared.ReportAnswer.{ReportAnswer}
-use Rattle.feeding.specs.Run.{endingOf}
-use Rattle.feeding.specs.declared.Ending.{Ending}
-use Rattle.feeding.specs.declared.Ending.the-variants as ending
+use Rattle.calls.specs.declared.Ending.{Ending}
+use Rattle.calls.specs.declared.Ending.the-variants as ending
 use Rattle.sitting_file.specs.Format.{readOf}
 use Rattle.sitting_file.specs.Format as format
 use Rattle.sitting_file.specs.declared.Refusal as fault

@@ -19,11 +19,11 @@ use Rattle.store.specs.declared.Made.{Made}
 use Rattle.store.specs.declared.Made.the-variants.{Done}
 use Rattle.rules.specs.Rules.{Answer, done, rules}
 use Rattle.calls.specs.Promises.{Moves}
-use Rattle.calls.specs.Refusals.{refusalNumber}
+use Rattle.calls.specs.Refusals.{refusalNumber, endingOf}
 use Rattle.calls.specs.declared.Refusal.{Refusal}
-use Rattle.feeding.specs.Run.{Run, endingOf, fedRun, Runs}
-use Rattle.feeding.specs.declared.Ending.{Ending}
-use Rattle.feeding.specs.declared.Ending.the-variants as ending
+use Rattle.calls.specs.Run.{Run, fedRun, Runs}
+use Rattle.calls.specs.declared.Ending.{Ending}
+use Rattle.calls.specs.declared.Ending.the-variants as ending
 use Rattle.sitting_file.specs.Samples.{firstOf, secondOf}
 use Rattle.sitting_file.specs.declared.Shape.{Shape}
 use Rattle.answering.specs.Judgement.{roomMade, openingOf}

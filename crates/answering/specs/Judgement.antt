@@ -5,11 +5,10 @@ use mathlib.Core.Bool.{Bool, _||_}
 use mathlib.Core.List.{List, [], _∷_, reverse}
 use lib.Dec.{eqb, ltb}
 use Rattle.contexts.specs.Sitting.{Sample, first, second, Sitting, contextsHeld}
-use Rattle.replay.specs.Room.{Opening}
+use Rattle.replay.specs.Room.{Opening, naming}
 use Rattle.replay.specs.Table.{Line, _when_, Outcome, refused, verdictOf}
 use Rattle.rules.specs.Report.{Reported, report, doesNotFit}
 use Rattle.rules.specs.Strings.{sittingFor}
-use Rattle.desks.specs.Changes.{naming}
 use Rattle.sitting_file.specs.Format.{refusalNumber, readOf}
 use Rattle.sitting_file.specs.Samples.{firstOf, secondOf}
 use Rattle.sitting_file.specs.declared.Shape.{Shape}

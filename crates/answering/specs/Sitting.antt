@@ -10,7 +10,7 @@ use Rattle.replay.specs.Machine.{opening, atDesk, move}
 use Rattle.store.specs.Sound.{soundb}
 use Rattle.store.specs.Meaning.{meaning}
 use Rattle.rules.specs.Rules.{Answer, rules}
-use Rattle.feeding.specs.Run.{Run, fedRun}
+use Rattle.calls.specs.Run.{Run, fedRun}
 use Rattle.sitting_file.specs.Samples.{firstOf, secondOf}
 use Rattle.sitting_file.specs.declared.Shape.{Shape}
 use Rattle.answering.specs.Judgement.{roomMade, openingOf}

@@ -1,1 +1,4 @@
 pub mod Settled
+pub mod Running
+pub mod RunSettled
+pub mod FewFeeds

@@ -5,7 +5,7 @@ use lib.ListN.{drop}
 use Rattle.replay.specs.Table.{Outcome, refused, answered}
 use Rattle.rows.specs.Rows.{rowWidth, readRows}
 use Rattle.rules.specs.Report.{Reported}
-use Rattle.rules.specs.Rules.{Answer, done, room, reported}
+use Rattle.rules.specs.Rules.{Answer, done, room, reported, point}
 use Rattle.calls.specs.declared.Refusal.{Refusal}
 use Rattle.calls.specs.declared.Refusal.the-variants.{Unsound, NoSuchDesk, AlreadyOpen, NotOpen, OutsideLimits, BadReservation, NoRoom, NotOfSitting, SampleFull, PastReservation, SampleEmpty, SheetShort}
 use Rattle.calls.specs.declared.Verdict.{Verdict}
@@ -14,6 +14,10 @@ use Rattle.calls.specs.declared.RoomLeft.{RoomLeft}
 use Rattle.calls.specs.declared.RoomLeft.the-variants as question
 use Rattle.calls.specs.declared.ReportAnswer.{ReportAnswer}
 use Rattle.calls.specs.declared.ReportAnswer.the-variants as written
+use Rattle.calls.specs.declared.ChartAnswer.{ChartAnswer}
+use Rattle.calls.specs.declared.ChartAnswer.the-variants as asked
+use Rattle.calls.specs.declared.Ending.{Ending}
+use Rattle.calls.specs.declared.Ending.the-variants as ending
 
 abbrev pub refusalNumber : Refusal → ℕ
 refusalNumber Unsound = 1
@@ -42,3 +46,13 @@ roomOf (question.Refused why) = refused (refusalNumber why)
 abbrev pub reportOf : ReportAnswer → ℕ → List ℕ → Outcome Answer
 reportOf (written.Rows n score) place sheet = answered (reported (record { rows = readRows n (drop (rowWidth * place) sheet); score = score }))
 reportOf (written.Refused why) place sheet = refused (refusalNumber why)
+
+-- "The answer is the shares of a"
+abbrev pub chartedOf : ChartAnswer → Outcome Answer
+chartedOf (asked.Answered chart) = answered (point chart)
+chartedOf (asked.Refused why) = refused (refusalNumber why)
+
+-- the end of a run of feeds: done with the whole sample, or the refusal that the next feed got
+abbrev pub endingOf : Ending → Outcome Answer
+endingOf ending.Whole = answered done
+endingOf (ending.Refused why) = refused (refusalNumber why)

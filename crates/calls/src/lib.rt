@@ -1,6 +1,7 @@
 // What a call at a store answers: that it was done, or a refusal as a case of an enum.
 ghost use mathlib.Core.Path.{_≡_};
 ghost use Rattle.calls.specs.Refusals.{refusalNumber};
+use chart::Chart;
 
 // The refusals of document 01's table that a call at a store can get.
 pub enum Refusal {
@@ -34,6 +35,24 @@ pub enum RoomLeft {
 pub enum ReportAnswer {
     Rows(u32, i64),
     Refused(Refusal),
+}
+
+// The answer of a chart question.
+pub enum ChartAnswer {
+    Answered(Chart),
+    Refused(Refusal),
+}
+
+// How a run of feeds ended: with the whole sample, or with the refusal that the next feed got.
+pub enum Ending {
+    Whole,
+    Refused(Refusal),
+}
+
+// The answer of a run of feeds: how many were accepted, and how it ended.
+pub struct Fed {
+    pub accepted: usize,
+    pub ending: Ending,
 }
 
 // A refusal's number in document 01's table.

@@ -9,12 +9,11 @@ use Rattle.replay.specs.Machine.{Call}
 use Rattle.rules.specs.Rules.{rules}
 use Rattle.calls.specs.declared.Refusal.{Refusal}
 use Rattle.calls.specs.declared.Refusal.the-variants.{Unsound, NoSuchDesk, AlreadyOpen, NotOpen, OutsideLimits, BadReservation, NoRoom, NotOfSitting, SampleFull, PastReservation, SampleEmpty, SheetShort}
-use Rattle.calls.specs.Refusals.{refusalNumber}
+use Rattle.calls.specs.Refusals.{refusalNumber, chartedOf}
 use Rattle.calls.specs.Promises.{Asks}
 use Rattle.calls.proofs.Settled.{asks-settled}
-use Rattle.charting.specs.declared.ChartAnswer.{ChartAnswer}
-use Rattle.charting.specs.declared.ChartAnswer.the-variants.{Answered, Refused}
-use Rattle.charting.specs.Answers.{chartedOf}
+use Rattle.calls.specs.declared.ChartAnswer.{ChartAnswer}
+use Rattle.calls.specs.declared.ChartAnswer.the-variants.{Answered, Refused}
 
 -- the refusal of a number
 numbered : ℕ → Refusal

@@ -9,9 +9,10 @@ ghost use Rattle.replay.specs.Machine.{atDesk, asking};
 ghost use Rattle.store.specs.Layout.{recordsIn};
 ghost use Rattle.rules.specs.Rules.{charting};
 ghost use Rattle.calls.specs.Promises.{Asks};
-ghost use Rattle.charting.specs.Answers.{chartedOf};
+ghost use Rattle.calls.specs.Refusals.{chartedOf};
 ghost use Rattle.charting.specs.Naming.{named};
 ghost use Rattle.charting.specs.Reading.{Readable};
+use calls::ChartAnswer;
 use calls::Refusal;
 use chart::Chart;
 use chart::chart_of;
@@ -25,12 +26,6 @@ use store::layout::SYMBOLS;
 use store::layout::USED;
 use store::layout::field_at;
 use store::sound;
-
-// The answer of a chart question.
-pub enum ChartAnswer {
-    Answered(Chart),
-    Refused(Refusal),
-}
 
 // What a length and a code name: the key of a desk's context, or no context over its alphabet.
 enum Named {

@@ -12,10 +12,10 @@ use Rattle.numbers.proofs.Orders.{less, same, more, order}
 use Rattle.contexts.specs.Sitting.{Sample, first, second}
 use Rattle.records.specs.Records.{records}
 use Rattle.records.proofs.Lent.{past-lent, agree-later}
-use Rattle.replay.specs.Room.{Opening}
+use Rattle.replay.specs.Room.{Opening, naming}
 use Rattle.store.specs.Layout.{headerSize, storeSize, deskStart, room, field, sizeAt, slotsAt, recordsIn}
 use Rattle.store.specs.Meaning.{openingAt}
-use Rattle.desks.specs.Changes.{naming, deskNumbers, freshDesk, Opened}
+use Rattle.desks.specs.Changes.{deskNumbers, freshDesk, Opened}
 
 -- ---- the part: zeros, then the first four numbers
 

@@ -6,11 +6,10 @@ use mathlib.Core.Path.{_≡_}
 use borrow.Author.Tests.{le-ltb}
 use Rattle.numbers.specs.Limits.{fewestSymbols, mostSymbols, deepest, desks}
 use Rattle.contexts.specs.Sitting.{Progress}
-use Rattle.replay.specs.Room.{closed, Room, left}
+use Rattle.replay.specs.Room.{closed, Room, left, naming}
 use Rattle.replay.specs.Table.{refused, answered}
 use Rattle.replay.specs.Machine.{opening, atDesk, outsideLimits, verdict}
 use Rattle.rules.specs.Rules.{done, rules}
-use Rattle.desks.specs.Changes.{naming}
 use Rattle.desks.proofs.Granting.{Ready, not-outside, outside, above-room, above-left, granted}
 
 module _ (ρ : Room Progress) (d : ℕ) (near : d < desks) (shut : ρ .at d ≡ closed) (A : ℕ) (few : fewestSymbols ≤ A) (most : A ≤ mostSymbols) where

@@ -15,10 +15,6 @@ use Rattle.store.specs.Plain.{Open}
 use Rattle.store.specs.Sound.{soundb}
 use Rattle.store.specs.Meaning.{openingAt}
 
--- "Opening a desk names A, D and a reservation r."
-abbrev pub naming : ℕ → ℕ → ℕ → Opening
-naming A D r = record { symbols = A; depth = D; reserve = r }
-
 -- a desk's numbers: open or not, A, D, the reservation, the two lengths, six recent symbols of each sample
 abbrev pub deskNumbers : ℕ
 deskNumbers = 18

@@ -18,5 +18,3 @@ pub mod Asking
 pub mod Writing
 pub mod Answering
 pub mod Refusing
-pub mod Running
-pub mod Settled

@@ -1,3 +1,2 @@
 pub mod FedStore
 pub mod Noted
-pub mod Run

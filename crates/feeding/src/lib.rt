@@ -14,11 +14,13 @@ ghost use Rattle.replay.specs.Machine.{atDesk, asking};
 ghost use Rattle.store.specs.Layout.{headerSize, used, reserveAt, recordsIn};
 ghost use Rattle.store.specs.Sound.{soundb, heldBy};
 ghost use Rattle.rules.specs.Rules.{feed};
-ghost use Rattle.calls.specs.Refusals.{outcomeOf};
+ghost use Rattle.calls.specs.Refusals.{outcomeOf, endingOf};
 ghost use Rattle.calls.specs.Promises.{Moves};
 ghost use Rattle.feeding.specs.FedStore.{shifted, recentAt, Judged, Found, Spanned, Acceptable, FedStore};
 ghost use Rattle.feeding.specs.Noted.{noted, Places};
-ghost use Rattle.feeding.specs.Run.{endingOf, Runs};
+ghost use Rattle.calls.specs.Run.{Runs};
+use calls::Ending;
+use calls::Fed;
 use calls::Refusal;
 use calls::Verdict;
 use records::Sought;
@@ -41,18 +43,6 @@ use store::layout::SYMBOLS;
 use store::layout::USED;
 use store::layout::field_at;
 use store::sound;
-
-// How a run of feeds ended: with the whole sample, or with the refusal that the next feed got.
-pub enum Ending {
-    Whole,
-    Refused(Refusal),
-}
-
-// How many feeds of a run were accepted, and how it ended.
-pub struct Fed {
-    pub accepted: usize,
-    pub ending: Ending,
-}
 
 // One more symbol of a sample at a desk.
 pub fn feed(store: &mut [u32], desk: u32, sample: u32, symbol: u32) -> Verdict

@@ -1,12 +1,12 @@
 // The answers as lines on standard output.
+use calls::ChartAnswer;
+use calls::Ending;
+use calls::Fed;
 use calls::Refusal;
 use calls::RoomLeft;
 use calls::Verdict;
 use calls::number_of;
 use chart::Chart;
-use charting::ChartAnswer;
-use feeding::Ending;
-use feeding::Fed;
 use libc::STDOUT_FILENO;
 use printing::magnitude;
 

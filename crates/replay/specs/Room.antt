@@ -14,6 +14,9 @@ pub record Opening : Type 0 where
   pub depth : ℕ
   pub reserve : ℕ
 
+abbrev pub naming : ℕ → ℕ → ℕ → Opening
+naming A D r = record { symbols = A; depth = D; reserve = r }
+
 pub data Desk (State : Type 0) : Type 0 where
   closed : Desk State
   opened : Opening → State → Desk State

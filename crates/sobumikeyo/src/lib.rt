@@ -1,20 +1,19 @@
 // The library for C: slices and single numbers alone. Each call answers 0 or its refusal's number.
 ghost use mathlib.Core.Path.{_≡_};
 ghost use Rattle.replay.specs.Machine.{opening, closing, atDesk, asking};
+ghost use Rattle.replay.specs.Room.{naming};
 ghost use Rattle.rules.specs.Rules.{feed};
 ghost use Rattle.store.specs.Making.{refusalOf};
 ghost use Rattle.store.specs.Sound.{soundb};
-ghost use Rattle.desks.specs.Changes.{naming};
-ghost use Rattle.calls.specs.Refusals.{outcomeOf};
-ghost use Rattle.feeding.specs.Run.{endingOf};
-ghost use Rattle.sobumikeyo.specs.Codes.{codeOf};
-ghost use Rattle.sobumikeyo.specs.Told.{MakeTold, MoveTold, RunTold, RoomTold, ReportTold, ReadTold, ChartTold};
+ghost use Rattle.calls.specs.Refusals.{outcomeOf, endingOf};
+ghost use Rattle.told.specs.Codes.{codeOf};
+ghost use Rattle.told.specs.Told.{MakeTold, MoveTold, RunTold, RoomTold, ReportTold, ReadTold, ChartTold};
+use calls::ChartAnswer;
+use calls::Ending;
 use calls::ReportAnswer;
 use calls::RoomLeft;
 use calls::Verdict;
 use chart::Chart;
-use charting::ChartAnswer;
-use feeding::Ending;
 use sitting_file::Reading;
 use store::Made;
 

@@ -7,12 +7,12 @@ use borrow.Author.Tests.{not-true, not-false}
 use borrow.Author.Needs.{needs}
 use Rattle.numbers.proofs.Orders.{eq→eqb}
 use Rattle.replay.specs.Machine.{atDesk, opening}
+use Rattle.replay.specs.Room.{naming}
 use Rattle.store.specs.Layout.{field}
 use Rattle.store.specs.Plain.{Open}
 use Rattle.store.specs.Sound.{soundb}
 use Rattle.store.specs.Meaning.{meaning}
 use Rattle.calls.proofs.Settled.{moves-unsound, moves-refused}
-use Rattle.desks.specs.Changes.{naming}
 use Rattle.desks.proofs.Reserving.{header-long}
 use Rattle.desks.proofs.Granting.{no-desk, outside}
 use Rattle.desks.proofs.Vacant.{shut-there, open-there}

@@ -4,9 +4,9 @@ use native.Mathlib.Omega.{arith}
 use Prim.Native.Nat.{_≤_}
 use borrow.Author.Needs.{needs}
 use Rattle.replay.specs.Machine.{atDesk, opening}
+use Rattle.replay.specs.Room.{naming}
 use Rattle.store.specs.Meaning.{meaning}
 use Rattle.calls.proofs.Settled.{moves-refused}
-use Rattle.desks.specs.Changes.{naming}
 use Rattle.desks.proofs.Reserving.{header-long}
 use Rattle.desks.proofs.Granting.{zero-reserved, above-room, above-left}
 use Rattle.desks.proofs.Vacant.{ready-there, room-made}

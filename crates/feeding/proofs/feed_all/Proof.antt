@@ -1,7 +1,7 @@
 -- `feeding::feed_all` meets its contract. Assumes nothing.
 use mathlib.Core.Path.{sym, _∙_}
 use borrow.Author.Needs.{needs}
-use Rattle.feeding.proofs.Running.{run-unsound}
+use Rattle.calls.proofs.Running.{run-unsound}
 use Rattle.feeding.proofs.feed_all.Statement.{statement}
 use Rattle.feeding.proofs.feed_all.Tie as tie
 

@@ -8,8 +8,8 @@ use Rattle.calls.specs.declared.Verdict.{Verdict}
 use Rattle.calls.specs.declared.Verdict.the-variants.{Done, Refused}
 use Rattle.calls.specs.Refusals.{refusalNumber, outcomeOf}
 use Rattle.calls.specs.Promises.{Moves}
-use Rattle.feeding.specs.Run.{feeding}
-use Rattle.feeding.proofs.Running.{Ran, ran-start, ran-on, ran-refused, ran-whole}
+use Rattle.calls.specs.Run.{feeding}
+use Rattle.calls.proofs.Running.{Ran, ran-start, ran-on, ran-refused, ran-whole}
 use Rattle.feeding.proofs.feed_run.Statement.{statement}
 use Rattle.feeding.proofs.feed_run.Tie as tie
 

@@ -1,7 +1,7 @@
 -- `sobumikeyo_chart` meets its contract: the chart question's answer, as numbers. Assumes nothing.
 use borrow.Author.Needs.{needs}
 use Rattle.chart.specs.declared.Chart.the-variants.{Neither, First, Second, Both}
-use Rattle.sobumikeyo.proofs.Telling.{chart-refused, chart-told}
+use Rattle.told.proofs.Telling.{chart-refused, chart-told}
 use Rattle.sobumikeyo.proofs.sobumikeyo_chart.Statement.{statement}
 use Rattle.sobumikeyo.proofs.sobumikeyo_chart.Tie as tie
 

@@ -1,7 +1,7 @@
 -- `sobumikeyo_feed_all` meets its contract: no run has more than 512 accepted feeds, which fit. Assumes nothing.
 use native.Mathlib.Omega.{arith}
 use borrow.Author.Needs.{needs}
-use Rattle.sobumikeyo.proofs.FewFeeds.{run-few}
+use Rattle.calls.proofs.FewFeeds.{run-few}
 use Rattle.sobumikeyo.proofs.sobumikeyo_feed_all.Statement.{statement}
 use Rattle.sobumikeyo.proofs.sobumikeyo_feed_all.Tie as tie
 

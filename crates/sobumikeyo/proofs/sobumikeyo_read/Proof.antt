@@ -1,6 +1,6 @@
 -- `sobumikeyo_read` meets its contract: the reader's answer, as numbers. Assumes nothing.
 use borrow.Author.Needs.{needs}
-use Rattle.sobumikeyo.proofs.Telling.{read-refused, read-told}
+use Rattle.told.proofs.Telling.{read-refused, read-told}
 use Rattle.sobumikeyo.proofs.sobumikeyo_read.Statement.{statement}
 use Rattle.sobumikeyo.proofs.sobumikeyo_read.Tie as tie
 

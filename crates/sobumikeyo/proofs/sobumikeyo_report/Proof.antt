@@ -2,7 +2,7 @@
 use borrow.Author.Needs.{needs}
 use mir.Syntax.{w64}
 use mir.ValLaws.{toZ-ofZ}
-use Rattle.sobumikeyo.proofs.Telling.{report-refused, report-told}
+use Rattle.told.proofs.Telling.{report-refused, report-told}
 use Rattle.sobumikeyo.proofs.sobumikeyo_report.Statement.{statement}
 use Rattle.sobumikeyo.proofs.sobumikeyo_report.Tie as tie
 

@@ -1,6 +1,6 @@
 -- `sobumikeyo_room` meets its contract: the room question's answer, as numbers. Assumes nothing.
 use borrow.Author.Needs.{needs}
-use Rattle.sobumikeyo.proofs.Telling.{room-refused, room-told}
+use Rattle.told.proofs.Telling.{room-refused, room-told}
 use Rattle.sobumikeyo.proofs.sobumikeyo_room.Statement.{statement}
 use Rattle.sobumikeyo.proofs.sobumikeyo_room.Tie as tie
 

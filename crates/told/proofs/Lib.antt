@@ -1,5 +1,4 @@
 pub mod Telling
-pub mod FewFeeds
 pub mod Numbers
 pub mod Accepted
 pub mod Refused

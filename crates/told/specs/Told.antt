@@ -9,18 +9,17 @@ use Rattle.replay.specs.Machine.{Call, atDesk, asking, roomQuestion}
 use Rattle.rules.specs.Rules.{rules, charting}
 use Rattle.store.specs.Making.{Makes, refusalOf}
 use Rattle.store.specs.declared.Made.{Made}
-use Rattle.calls.specs.Refusals.{outcomeOf, roomOf, reportOf}
+use Rattle.calls.specs.Refusals.{outcomeOf, roomOf, reportOf, endingOf, chartedOf}
 use Rattle.calls.specs.Promises.{Moves, Asks, Reports}
 use Rattle.calls.specs.declared.Verdict.{Verdict}
 use Rattle.calls.specs.declared.RoomLeft.{RoomLeft}
 use Rattle.calls.specs.declared.ReportAnswer.{ReportAnswer}
-use Rattle.feeding.specs.Run.{Runs, endingOf}
-use Rattle.feeding.specs.declared.Ending.{Ending}
-use Rattle.charting.specs.Answers.{chartedOf}
-use Rattle.charting.specs.declared.ChartAnswer.{ChartAnswer}
+use Rattle.calls.specs.Run.{Runs}
+use Rattle.calls.specs.declared.Ending.{Ending}
+use Rattle.calls.specs.declared.ChartAnswer.{ChartAnswer}
 use Rattle.sitting_file.specs.Format.{readOf}
-use Rattle.sobumikeyo.specs.Codes.{codeOf, readCode}
-use Rattle.sobumikeyo.specs.Outputs.{leftAfter, rowsAfter, scoreAfter, shapeAfter, seenAfter, firstAfter, secondAfter, gapAfter}
+use Rattle.told.specs.Codes.{codeOf, readCode}
+use Rattle.told.specs.Outputs.{leftAfter, rowsAfter, scoreAfter, shapeAfter, seenAfter, firstAfter, secondAfter, gapAfter}
 
 -- a making of room K with the numbers `before`
 pub record MakeTold (K : ℕ) (before : List ℕ) (r : ℕ) (after : List ℕ) : Type 0 where

@@ -10,7 +10,7 @@ use Rattle.calls.specs.declared.Refusal.the-variants.{Unsound, NoSuchDesk, Alre
 use Rattle.sitting_file.specs.Format as format
 use Rattle.sitting_file.specs.declared.Refusal as file
 use Rattle.sitting_file.specs.declared.Refusal.the-variants as fault
-use Rattle.sobumikeyo.specs.Codes.{codeOf}
+use Rattle.told.specs.Codes.{codeOf}
 
 -- THEOREM. No refusal has the number 0
 pub above-zero : (why : Refusal) → 0 < refusalNumber why

@@ -13,8 +13,8 @@ use Rattle.replay.specs.Machine.{asking, verdict, move, shift, settle, put, mov
 use Rattle.replay.proofs.Tables.{answers-none}
 use Rattle.rules.specs.Rules.{Answer, feed, rules, linesOf, nextOf}
 use Rattle.rules.specs.Feed.{fed}
-use Rattle.feeding.specs.Run.{feeding, fedRun, Runs}
-use Rattle.feeding.specs.Run as run
+use Rattle.calls.specs.Run.{feeding, fedRun, Runs}
+use Rattle.calls.specs.Run as run
 use Rattle.store.specs.Sound.{soundb}
 use Rattle.store.specs.Meaning.{meaning}
 use borrow.Author.Tests.{eq-eqb, leb-false}

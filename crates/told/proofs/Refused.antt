@@ -8,23 +8,22 @@ use lib.Ieee.{Float}
 use Rattle.replay.specs.Table.{Outcome, refused}
 use Rattle.replay.specs.Machine.{Call, roomQuestion}
 use Rattle.rules.specs.Rules.{Answer, room, rules}
-use Rattle.calls.specs.Refusals.{outcomeOf, roomOf, reportOf}
+use Rattle.calls.specs.Refusals.{outcomeOf, roomOf, reportOf, endingOf, chartedOf}
 use Rattle.calls.specs.Promises.{Moves, Asks, Reports}
 use Rattle.calls.specs.declared.RoomLeft.{RoomLeft}
 use Rattle.calls.specs.declared.RoomLeft.the-variants as question
 use Rattle.calls.specs.declared.ReportAnswer.{ReportAnswer}
 use Rattle.calls.specs.declared.ReportAnswer.the-variants as written
-use Rattle.feeding.specs.Run.{Runs, endingOf}
-use Rattle.charting.specs.Answers.{chartedOf}
-use Rattle.charting.specs.declared.ChartAnswer.{ChartAnswer}
-use Rattle.charting.specs.declared.ChartAnswer.the-variants as asked
+use Rattle.calls.specs.Run.{Runs}
+use Rattle.calls.specs.declared.ChartAnswer.{ChartAnswer}
+use Rattle.calls.specs.declared.ChartAnswer.the-variants as asked
 use Rattle.sitting_file.specs.Format.{readOf}
 use Rattle.sitting_file.specs.declared.Reading.{Reading}
 use Rattle.sitting_file.specs.declared.Reading.the-variants as reading
-use Rattle.sobumikeyo.specs.Codes.{codeOf, readCode}
-use Rattle.sobumikeyo.specs.Outputs.{leftAfter, rowsAfter, scoreAfter, shapeAfter, seenAfter, firstAfter, secondAfter, gapAfter}
-use Rattle.sobumikeyo.specs.Told.{MoveTold, RunTold, RoomTold, ReportTold, ReadTold, ChartTold}
-use Rattle.sobumikeyo.proofs.Numbers.{refused-by}
+use Rattle.told.specs.Codes.{codeOf, readCode}
+use Rattle.told.specs.Outputs.{leftAfter, rowsAfter, scoreAfter, shapeAfter, seenAfter, firstAfter, secondAfter, gapAfter}
+use Rattle.told.specs.Told.{MoveTold, RunTold, RoomTold, ReportTold, ReadTold, ChartTold}
+use Rattle.told.proofs.Numbers.{refused-by}
 
 -- ---- an opening, a feed or a closing
 module _ {s t : List ℕ} {c : Call rules} where

@@ -6,7 +6,7 @@ use lib.IntN.{ℤ}
 use lib.Ieee.{Float}
 use Rattle.replay.specs.Machine.{atDesk, asking, roomQuestion}
 use Rattle.rules.specs.Rules.{charting}
-use Rattle.calls.specs.Refusals.{refusalNumber, roomOf, reportOf}
+use Rattle.calls.specs.Refusals.{refusalNumber, roomOf, reportOf, chartedOf}
 use Rattle.calls.specs.Promises.{Asks, Reports}
 use Rattle.calls.specs.declared.Refusal.{Refusal}
 use Rattle.calls.specs.declared.RoomLeft.{RoomLeft}
@@ -14,18 +14,17 @@ use Rattle.calls.specs.declared.RoomLeft.the-variants as question
 use Rattle.calls.specs.declared.ReportAnswer.{ReportAnswer}
 use Rattle.calls.specs.declared.ReportAnswer.the-variants as written
 use Rattle.chart.specs.declared.Chart.{Chart}
-use Rattle.charting.specs.Answers.{chartedOf}
-use Rattle.charting.specs.declared.ChartAnswer.{ChartAnswer}
-use Rattle.charting.specs.declared.ChartAnswer.the-variants as asked
+use Rattle.calls.specs.declared.ChartAnswer.{ChartAnswer}
+use Rattle.calls.specs.declared.ChartAnswer.the-variants as asked
 use Rattle.sitting_file.specs.Format.{readOf}
 use Rattle.sitting_file.specs.Format as format
 use Rattle.sitting_file.specs.declared.Refusal as file
 use Rattle.sitting_file.specs.declared.Shape.{Shape}
 use Rattle.sitting_file.specs.declared.Reading.{Reading}
 use Rattle.sitting_file.specs.declared.Reading.the-variants as reading
-use Rattle.sobumikeyo.specs.Codes.{codeOf, readCode}
-use Rattle.sobumikeyo.specs.Outputs.{leftAfter, rowsAfter, scoreAfter, shapeAfter, seenIn, firstIn, secondIn, gapIn, seenAfter, firstAfter, secondAfter, gapAfter}
-use Rattle.sobumikeyo.specs.Told.{RoomTold, ReportTold, ReadTold, ChartTold}
+use Rattle.told.specs.Codes.{codeOf, readCode}
+use Rattle.told.specs.Outputs.{leftAfter, rowsAfter, scoreAfter, shapeAfter, seenIn, firstIn, secondIn, gapIn, seenAfter, firstAfter, secondAfter, gapAfter}
+use Rattle.told.specs.Told.{RoomTold, ReportTold, ReadTold, ChartTold}
 
 -- ---- the room question
 module _ {s : List ℕ} {old : ℕ} (x : RoomLeft) (p : Asks s roomQuestion (roomOf x)) where

@@ -12,14 +12,6 @@ use Rattle.store.specs.Layout.{storeSize, room}
 use Rattle.store.specs.Sound.{soundb}
 use Rattle.store.specs.Meaning.{meaning}
 use Rattle.rules.specs.Rules.{Answer, feed, done, rules}
-use Rattle.calls.specs.Refusals.{refusalNumber}
-use Rattle.feeding.specs.declared.Ending.{Ending}
-use Rattle.feeding.specs.declared.Ending.the-variants.{Whole, Refused}
-
--- what the code says of the end: done with the whole sample, or the refusal that the next feed got
-abbrev pub endingOf : Ending → Outcome Answer
-endingOf Whole = answered done
-endingOf (Refused why) = refused (refusalNumber why)
 
 -- how many feeds were accepted, how they ended, and the room then
 pub record Run : Type 0 where

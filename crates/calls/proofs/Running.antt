@@ -15,8 +15,8 @@ use Rattle.store.specs.Layout.{storeSize, room}
 use Rattle.store.specs.Sound.{soundb}
 use Rattle.store.specs.Meaning.{meaning}
 use Rattle.rules.specs.Rules.{Answer, done, rules}
 use Rattle.calls.specs.Promises.{Moves}
-use Rattle.feeding.specs.Run.{Run, first, feeding, fedRun, Runs}
+use Rattle.calls.specs.Run.{Run, first, feeding, fedRun, Runs}
 
 -- ---- no call changes K
 

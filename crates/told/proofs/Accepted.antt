@@ -11,7 +11,7 @@ use Rattle.rules.specs.Rules.{done, room, point, charting, rules}
 use Rattle.store.specs.Making.{Makes, refusalOf}
 use Rattle.store.specs.declared.Made.{Made}
 use Rattle.store.specs.declared.Made.the-variants as making
-use Rattle.calls.specs.Refusals.{outcomeOf, roomOf, reportOf}
+use Rattle.calls.specs.Refusals.{outcomeOf, roomOf, reportOf, endingOf, chartedOf}
 use Rattle.calls.specs.Promises.{Moves, Asks, Reports}
 use Rattle.calls.specs.declared.Verdict.{Verdict}
 use Rattle.calls.specs.declared.Verdict.the-variants as verdict
@@ -19,21 +19,20 @@ use Rattle.calls.specs.declared.RoomLeft.{RoomLeft}
 use Rattle.calls.specs.declared.RoomLeft.the-variants as question
 use Rattle.calls.specs.declared.ReportAnswer.{ReportAnswer}
 use Rattle.calls.specs.declared.ReportAnswer.the-variants as written
-use Rattle.feeding.specs.Run.{Runs, endingOf}
-use Rattle.feeding.specs.declared.Ending.{Ending}
-use Rattle.feeding.specs.declared.Ending.the-variants as ending
+use Rattle.calls.specs.Run.{Runs}
+use Rattle.calls.specs.declared.Ending.{Ending}
+use Rattle.calls.specs.declared.Ending.the-variants as ending
 use Rattle.chart.specs.declared.Chart.{Chart}
-use Rattle.charting.specs.Answers.{chartedOf}
-use Rattle.charting.specs.declared.ChartAnswer.{ChartAnswer}
-use Rattle.charting.specs.declared.ChartAnswer.the-variants as asked
+use Rattle.calls.specs.declared.ChartAnswer.{ChartAnswer}
+use Rattle.calls.specs.declared.ChartAnswer.the-variants as asked
 use Rattle.sitting_file.specs.Format.{readOf}
 use Rattle.sitting_file.specs.declared.Shape.{Shape}
 use Rattle.sitting_file.specs.declared.Reading.{Reading}
 use Rattle.sitting_file.specs.declared.Reading.the-variants as reading
-use Rattle.sobumikeyo.specs.Codes.{codeOf, readCode}
-use Rattle.sobumikeyo.specs.Outputs.{leftAfter, rowsAfter, scoreAfter, shapeAfter, seenIn, firstIn, secondIn, gapIn, seenAfter, firstAfter, secondAfter, gapAfter}
-use Rattle.sobumikeyo.specs.Told.{MakeTold, MoveTold, RunTold, RoomTold, ReportTold, ReadTold, ChartTold}
-use Rattle.sobumikeyo.proofs.Numbers.{fault-above-zero, not-refused}
+use Rattle.told.specs.Codes.{codeOf, readCode}
+use Rattle.told.specs.Outputs.{leftAfter, rowsAfter, scoreAfter, shapeAfter, seenIn, firstIn, secondIn, gapIn, seenAfter, firstAfter, secondAfter, gapAfter}
+use Rattle.told.specs.Told.{MakeTold, MoveTold, RunTold, RoomTold, ReportTold, ReadTold, ChartTold}
+use Rattle.told.proofs.Numbers.{fault-above-zero, not-refused}
 
 -- ---- a making
 pub made-accepted : {K : ℕ} {s t : List ℕ} → MakeTold K s 0 t → Makes K s making.Done t

@@ -14,19 +14,18 @@ use Rattle.rules.specs.Rules.{Answer, done, room, reported, point, charting, ru
 use Rattle.store.specs.Sound.{soundb}
 use Rattle.store.specs.Making.{refusalOf}
 use Rattle.chart.specs.declared.Chart.{Chart}
-use Rattle.calls.specs.Refusals.{outcomeOf, roomOf, reportOf}
+use Rattle.calls.specs.Refusals.{outcomeOf, roomOf, reportOf, endingOf, chartedOf}
 use Rattle.calls.specs.declared.RoomLeft.{RoomLeft}
 use Rattle.calls.specs.declared.RoomLeft.the-variants as question
 use Rattle.calls.specs.declared.ReportAnswer.{ReportAnswer}
 use Rattle.calls.specs.declared.ReportAnswer.the-variants as written
 use Rattle.calls.proofs.Settled.{moves-settled, asks-settled, reports-settled}
-use Rattle.feeding.specs.Run.{Runs, endingOf}
-use Rattle.charting.specs.Answers.{chartedOf}
-use Rattle.charting.specs.declared.ChartAnswer.{ChartAnswer}
-use Rattle.charting.specs.declared.ChartAnswer.the-variants as asked
-use Rattle.sobumikeyo.specs.Codes.{codeOf}
-use Rattle.sobumikeyo.specs.Outputs.{leftAfter, rowsAfter, scoreAfter, seenIn, firstIn, secondIn, gapIn, seenAfter, firstAfter, secondAfter, gapAfter}
-use Rattle.sobumikeyo.specs.Told.{MakeTold, MoveTold, RunTold, RoomTold, ReportTold, ReadTold, ChartTold}
+use Rattle.calls.specs.Run.{Runs}
+use Rattle.calls.specs.declared.ChartAnswer.{ChartAnswer}
+use Rattle.calls.specs.declared.ChartAnswer.the-variants as asked
+use Rattle.told.specs.Codes.{codeOf}
+use Rattle.told.specs.Outputs.{leftAfter, rowsAfter, scoreAfter, seenIn, firstIn, secondIn, gapIn, seenAfter, firstAfter, secondAfter, gapAfter}
+use Rattle.told.specs.Told.{MakeTold, MoveTold, RunTold, RoomTold, ReportTold, ReadTold, ChartTold}
 
 -- ---- calls that change a store
 pub make-one : {K : ℕ} {s : List ℕ} {r q : ℕ} {x y : List ℕ} → MakeTold K s r x → MakeTold K s q y → r ≡ q

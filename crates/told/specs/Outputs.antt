@@ -11,8 +11,8 @@ use Rattle.sitting_file.specs.declared.Reading.{Reading}
 use Rattle.sitting_file.specs.declared.Reading.the-variants as reading
 use Rattle.chart.specs.declared.Chart.{Chart}
 use Rattle.chart.specs.declared.Chart.the-variants as chart
-use Rattle.charting.specs.declared.ChartAnswer.{ChartAnswer}
-use Rattle.charting.specs.declared.ChartAnswer.the-variants as asked
+use Rattle.calls.specs.declared.ChartAnswer.{ChartAnswer}
+use Rattle.calls.specs.declared.ChartAnswer.the-variants as asked
 
 -- how many contexts are left
 abbrev pub leftAfter : RoomLeft → ℕ → ℕ

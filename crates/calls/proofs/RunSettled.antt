@@ -10,9 +10,9 @@ use Rattle.store.specs.Layout.{storeSize, room}
 use Rattle.store.specs.Sound.{soundb}
 use Rattle.store.specs.Meaning.{meaning}
 use Rattle.rules.specs.Rules.{Answer, done}
 use Rattle.calls.specs.Promises.{Moves}
-use Rattle.feeding.specs.Run.{Run, first, feeding, fedRun, Runs}
-use Rattle.feeding.proofs.Running.{room-moved, ran-start, ran-refused, ran-whole}
+use Rattle.calls.specs.Run.{Run, first, feeding, fedRun, Runs}
+use Rattle.calls.proofs.Running.{room-moved, ran-start, ran-refused, ran-whole}
 
 -- ---- two results that the promise allows
 
