@@ -13,7 +13,7 @@ use Rattle.records.specs.Records.{width, records}
 use Rattle.records.specs.Held.{without, Removable}
 use Rattle.records.specs.Bumped.{Written}
 use Rattle.records.proofs.Lent.{tail-lent, tail-back, agree-later}
-use Rattle.records.proofs.Settling.{removed-count}
+use Rattle.recording.proofs.Settling.{removed-count}
 use Rattle.store.specs.Layout.{headerSize, storeSize, deskStart, room, used, recordsIn}
 use Rattle.store.specs.Sound.{soundb}
 use Rattle.store.proofs.Passing.{passed}

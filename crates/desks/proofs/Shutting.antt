@@ -16,7 +16,7 @@ use Rattle.numbers.proofs.Every.{every-at, every-of, all-at, all-of}
 use Rattle.contexts.specs.Keys.{deskOf}
 use Rattle.records.specs.Records.{key, keys, rises}
 use Rattle.records.specs.Held.{without, keep, ofDesk}
-use Rattle.records.proofs.Desks.{rising-without, length-without, other-without}
+use Rattle.recording.proofs.Desks.{rising-without, length-without, other-without}
 use Rattle.records.proofs.Keeping.{keep-all}
 use Rattle.replay.specs.Room.{closed, reserved}
 use Rattle.replay.specs.Table.{refused, answered, verdictOf}

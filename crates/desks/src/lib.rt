@@ -15,7 +15,7 @@ ghost use Rattle.desks.specs.Changes.{deskNumbers, freshDesk, Openable, 
 use calls::Refusal;
 use calls::RoomLeft;
 use calls::Verdict;
-use records::remove_desk;
+use recording::remove_desk;
 use store::layout::DEEPEST;
 use store::layout::DEPTH;
 use store::layout::DESK_SIZE;

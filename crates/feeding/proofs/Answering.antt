@@ -11,7 +11,7 @@ use Rattle.numbers.specs.Limits.{deepest, desks}
 use Rattle.contexts.specs.Sitting.{sampleOf}
 use Rattle.records.specs.Fed.{missing, Askable}
 use Rattle.records.specs.Located.{Located}
-use Rattle.records.proofs.Running.{missing-is}
+use Rattle.recording.proofs.Running.{missing-is}
 use Rattle.replay.specs.Table.{refused, answered}
 use Rattle.replay.specs.Machine.{asking, atDesk}
 use Rattle.store.specs.Layout.{headerSize, used, deskStart, field, depthAt, reserveAt, sizeAt, slotsAt, recordsIn}

@@ -25,7 +25,7 @@ use Rattle.records.proofs.Rising.{rank-mono, rank-same, length-keys, rank-lengt
 use Rattle.records.proofs.Finding.{lookup-each, lookup-place}
 use Rattle.records.proofs.Counting.{count-blank}
 use Rattle.records.proofs.Lent.{tail-lent}
-use Rattle.records.proofs.Desks.{length-without, without-cut}
+use Rattle.recording.proofs.Desks.{length-without, without-cut}
 use Rattle.store.specs.Layout.{headerSize, room, used, field, reserveAt, recordsIn, totalOf}
 use Rattle.store.specs.Sound.{soundb, heldBy}
 use Rattle.store.specs.Plain.{Open, recordFor, recordAt}

@@ -17,7 +17,7 @@ use Rattle.contexts.proofs.KeyOrder.{Within}
 use Rattle.records.specs.Records.{lookup}
 use Rattle.records.specs.Held.{countAt, Rising, Wide}
 use Rattle.records.specs.Fed.{fed}
-use Rattle.records.proofs.Feeding.{count-fed}
+use Rattle.recording.proofs.Feeding.{count-fed}
 use Rattle.store.specs.Layout.{totalOf}
 
 pub same-sym : (i j : Sample) → sameSample i j ≡ sameSample j i

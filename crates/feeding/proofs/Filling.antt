@@ -19,8 +19,8 @@ use Rattle.records.specs.Held.{held, keep, ofDesk}
 use Rattle.records.specs.Fed.{missing}
 use Rattle.records.proofs.Keeping.{held-keep}
 use Rattle.records.proofs.Finding.{place-held}
-use Rattle.records.proofs.Growing.{length-fed, desk-length-fed, other-fed}
-use Rattle.records.proofs.Desks.{length-desks}
+use Rattle.recording.proofs.Growing.{length-fed, desk-length-fed, other-fed}
+use Rattle.recording.proofs.Desks.{length-desks}
 use Rattle.store.specs.Layout.{room, used, isOpen, reserveAt, recordsIn}
 use Rattle.store.specs.Sound.{heldBy, reservedAt}
 use Rattle.store.specs.Plain.{Open}

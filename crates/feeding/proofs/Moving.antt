@@ -18,7 +18,7 @@ use Rattle.contexts.proofs.Strings.{begins→take}
 use Rattle.contexts.proofs.Followed.{context-take}
 use Rattle.records.specs.Held.{keep, ofDesk}
 use Rattle.records.specs.Records.{countOf}
-use Rattle.records.proofs.Growing.{other-fed}
+use Rattle.recording.proofs.Growing.{other-fed}
 use Rattle.replay.specs.Room.{Desk, opened, Room}
 use Rattle.replay.specs.Machine.{asking, atDesk, put, moved, shift}
 use Rattle.store.specs.Layout.{symbolsAt, depthAt, sizeAt, slotsAt, recordsIn}

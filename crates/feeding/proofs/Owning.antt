@@ -12,7 +12,7 @@ use Rattle.contexts.proofs.KeyOrder.{deskOf-key}
 use Rattle.contexts.proofs.Followed.{context-take}
 use Rattle.records.specs.Held.{held}
 use Rattle.records.proofs.Finding.{held-place}
-use Rattle.records.proofs.Growing.{before, followed, origin}
+use Rattle.recording.proofs.Growing.{before, followed, origin}
 use Rattle.store.specs.Layout.{symbolsAt, depthAt, recordsIn}
 use Rattle.store.specs.Sound.{soundb}
 use Rattle.store.specs.Plain.{Open, ContextAt}

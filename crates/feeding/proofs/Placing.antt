@@ -14,7 +14,7 @@ use Rattle.contexts.specs.Sitting.{Sample, sameSample}
 use Rattle.records.specs.Records.{width, records}
 use Rattle.records.specs.Bumped.{Written}
 use Rattle.records.proofs.Lent.{agree-later}
-use Rattle.records.proofs.Settling.{written-count}
+use Rattle.recording.proofs.Settling.{written-count}
 use Rattle.store.specs.Layout.{headerSize, storeSize, room, used, deskStart, field, sizeField, recentField, sizeAt, slotsAt, recordsIn}
 use Rattle.store.proofs.Standing.{sound-stands, slots-long}
 use Rattle.feeding.specs.FedStore.{FedStore, Acceptable, shifted, recordsFed}

@@ -21,8 +21,8 @@ use Rattle.records.specs.Held.{held, keep, ofDesk}
 use Rattle.records.specs.Fed.{fed, missing}
 use Rattle.records.proofs.Keeping.{rises-keep, held-keep}
 use Rattle.records.proofs.Finding.{place-held}
-use Rattle.records.proofs.Feeding.{rising-fed, held-fed}
-use Rattle.records.proofs.Growing.{desk-length-fed}
+use Rattle.recording.proofs.Feeding.{rising-fed, held-fed}
+use Rattle.recording.proofs.Growing.{desk-length-fed}
 use Rattle.store.specs.Layout.{symbolsAt, depthAt, sizeAt, recordsIn}
 use Rattle.store.specs.Sound.{soundb, heldBy}
 use Rattle.store.specs.Plain.{Open, ContextAt}

@@ -13,7 +13,7 @@ use Rattle.contexts.specs.Sitting.{Sample, first, second, sameSample}
 use Rattle.contexts.proofs.KeyOrder.{Within}
 use Rattle.records.specs.Records.{lookup, countOf}
 use Rattle.records.specs.Held.{held, Rising}
-use Rattle.records.proofs.Feeding.{count-fed, held-fed, rising-fed}
+use Rattle.recording.proofs.Feeding.{count-fed, held-fed, rising-fed}
 use Rattle.store.specs.Layout.{room, used, reserveAt, recordsIn, totalOf}
 use Rattle.store.specs.Sound.{heldBy}
 use Rattle.store.specs.Plain.{Open, recordFor, totalAt}

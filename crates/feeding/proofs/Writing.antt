@@ -11,7 +11,7 @@ use Rattle.records.specs.Bumped.{Written}
 use Rattle.records.specs.Fed.{fed, Feedable}
 use Rattle.records.specs.Located.{Located, Ready}
 use Rattle.records.proofs.Lent.{tail-lent, tail-back}
-use Rattle.records.proofs.Settling.{written-count}
+use Rattle.recording.proofs.Settling.{written-count}
 use Rattle.store.specs.Layout.{headerSize, used, deskStart, sizeField, recentField, recordsIn}
 use Rattle.store.proofs.Standing.{sound-stands}
 use Rattle.feeding.specs.FedStore.{FedStore, Acceptable, recentAt, recordsFed}

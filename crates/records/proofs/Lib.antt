@@ -6,17 +6,5 @@ pub mod Cells
 pub mod Bumping
 pub mod Counting
 pub mod Keeping
-pub mod Desks
-pub mod Shifting
-pub mod Inserting
-pub mod Removing
-pub mod Feeding
-pub mod Growing
 pub mod KeyWalk
 pub mod Seeking
-pub mod Around
-pub mod Running
-pub mod Opening
-pub mod Raising
-pub mod Settling
-pub mod Examples

@@ -1,0 +1,51 @@
+-- The definitions, run: the first sample 0101 of J1 (A 2, D 1) is fed at desk 2 to a store that holds nothing. Assumes nothing.
+use mathlib.Core.Path.{_≡_, refl}
+use mathlib.Core.List.{List, [], _∷_}
+use Prim.Native.Nat.{ℕ}
+use lib.ListN.{length}
+use Rattle.numbers.specs.Sum.{sum}
+use Rattle.contexts.specs.Keys.{digits, keyOf}
+use Rattle.contexts.specs.Sitting.{first, second}
+use Rattle.records.specs.Records.{keys, countsOf, lookup}
+use Rattle.records.specs.Held.{held, keep, without, countAt}
+use Rattle.records.specs.Bumped.{bumpedAt}
+use Rattle.records.specs.Fed.{fedTo, fed, missing}
+
+-- after two symbols, and after all four
+half : List (List ℕ)
+half = fed 2 first 1 (0 ∷ []) (fed 2 first 0 [] [])
+
+whole : List (List ℕ)
+whole = fed 2 first 1 (0 ∷ []) (fed 2 first 0 (1 ∷ []) half)
+
+-- the empty context, 0 and 1 are held, in row order: three records, as J1 needs
+held-there : keys whole ≡ keyOf 2 [] ∷ keyOf 2 (0 ∷ []) ∷ keyOf 2 (1 ∷ []) ∷ []
+unfolding half whole fedTo bumpedAt digits
+held-there = refl
+
+-- the third symbol brings the context 1
+third : missing 2 (1 ∷ []) half ≡ 1
+unfolding half fedTo bumpedAt digits held sum
+third = refl
+
+-- 0 is followed by 1 twice, 1 by 0 once; the second sample has seen nothing
+counts-first : countsOf first (lookup (keyOf 2 (0 ∷ [])) whole) ≡ 0 ∷ 2 ∷ 0 ∷ 0 ∷ 0 ∷ 0 ∷ 0 ∷ 0 ∷ []
+unfolding half whole fedTo bumpedAt digits lookup
+counts-first = refl
+
+count-one : countAt (keyOf 2 (1 ∷ [])) first 0 whole ≡ 1
+unfolding half whole fedTo bumpedAt digits lookup
+count-one = refl
+
+count-second : countAt (keyOf 2 []) second 0 whole ≡ 0
+unfolding half whole fedTo bumpedAt digits lookup
+count-second = refl
+
+-- closing the desk leaves nothing, closing another all three
+closed : length (without 2 whole) ≡ 0
+unfolding half whole fedTo bumpedAt digits keep
+closed = refl
+
+other-closed : length (without 1 whole) ≡ 3
+unfolding half whole fedTo bumpedAt digits keep
+other-closed = refl

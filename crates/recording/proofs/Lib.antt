@@ -1,0 +1,12 @@
+pub mod Desks
+pub mod Shifting
+pub mod Inserting
+pub mod Removing
+pub mod Feeding
+pub mod Growing
+pub mod Around
+pub mod Running
+pub mod Opening
+pub mod Raising
+pub mod Settling
+pub mod Examples
