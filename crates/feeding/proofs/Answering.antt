@@ -20,14 +20,14 @@ use Rattle.store.proofs.Standing.{sound-stands, slots-long}
 use Rattle.rules.specs.Rules.{feed, done}
 use Rattle.calls.specs.Promises.{Moves}
 use Rattle.calls.proofs.Settled.{moves-refused, moves-done}
-use Rattle.feeding.specs.FedStore.{FedStore, Judged, Found, Acceptable, recentAt}
-use Rattle.feeding.proofs.Before.{rising}
-use Rattle.feeding.proofs.Clearing.{clear-from}
+use Rattle.entering.specs.FedStore.{FedStore, Judged, Found, Acceptable, recentAt}
+use Rattle.entering.proofs.Before.{rising}
+use Rattle.entering.proofs.Clearing.{clear-from}
 use Rattle.feeding.proofs.Sounding.{fed-sound}
 use Rattle.feeding.proofs.Moving.{fed-meaning}
 use Rattle.feeding.proofs.Judging.{past-reservation, accepted}
-use Rattle.feeding.proofs.Asking.{askable}
-use Rattle.feeding.proofs.Numbering.{size-number, recent-number}
+use Rattle.entering.proofs.Asking.{askable}
+use Rattle.entering.proofs.Numbering.{size-number, recent-number}
 
 -- the recent symbols as they were copied
 pub record Copied (s : List ℕ) (d k many : ℕ) (slots : List ℕ) : Type 0 where

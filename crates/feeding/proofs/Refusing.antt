@@ -18,9 +18,9 @@ use Rattle.store.proofs.Standing.{sound-stands}
 use Rattle.rules.specs.Rules.{feed, rules}
 use Rattle.calls.specs.Promises.{Moves}
 use Rattle.calls.proofs.Settled.{moves-refused}
-use Rattle.feeding.specs.FedStore.{Judged}
+use Rattle.entering.specs.FedStore.{Judged}
 use Rattle.feeding.proofs.Judging.{no-such-desk, not-open, no-sample, no-symbol, sample-full}
-use Rattle.feeding.proofs.Numbering.{size-number}
+use Rattle.entering.proofs.Numbering.{size-number}
 
 -- a desk's numbers may be read
 pub field-readable : (s : List ℕ) → soundb s ≡ true → (d : ℕ) → d < desks → (n : ℕ) → n < 32 → (headerSize ≤ length s) × (d < desks) × (n < 32)

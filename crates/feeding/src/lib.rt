@@ -1,46 +1,32 @@
 // Feeding at a store: one symbol, and a run of them after one soundness test.
 ghost use mathlib.Core.Path.{_≡_};
 ghost use mathlib.Core.Bool.{true};
-ghost use Prim.Native.Nat.{min, _+_, _-_, _≤_, _<_};
-ghost use lib.Dec.{ltb};
-ghost use lib.ListN.{length, take, drop, getD};
-ghost use Rattle.numbers.specs.Limits.{deepest, longest};
-ghost use Rattle.contexts.specs.Sitting.{sampleOf};
-ghost use Rattle.records.specs.Records.{records};
-ghost use Rattle.records.specs.Held.{keep, ofDesk};
-ghost use Rattle.records.specs.Fed.{Askable};
-ghost use Rattle.records.specs.Located.{Located};
 ghost use Rattle.replay.specs.Machine.{atDesk, asking};
-ghost use Rattle.store.specs.Layout.{headerSize, used, reserveAt, recordsIn};
-ghost use Rattle.store.specs.Sound.{soundb, heldBy};
+ghost use Rattle.store.specs.Sound.{soundb};
 ghost use Rattle.rules.specs.Rules.{feed};
 ghost use Rattle.calls.specs.Refusals.{outcomeOf, endingOf};
 ghost use Rattle.calls.specs.Promises.{Moves};
-ghost use Rattle.feeding.specs.FedStore.{shifted, recentAt, Judged, Found, Spanned, Acceptable, FedStore};
-ghost use Rattle.feeding.specs.Noted.{noted, Places};
+ghost use Rattle.entering.specs.FedStore.{Judged};
 ghost use Rattle.calls.specs.Run.{Runs};
 use calls::Ending;
 use calls::Fed;
 use calls::Refusal;
 use calls::Verdict;
-use recording::feed_records;
-use records::Sought;
-use records::place_from;
-use records::seek;
+use entering::fewer;
+use entering::is_past;
+use entering::seek_in;
+use entering::six_from;
+use entering::write_feed;
 use store::layout::DEPTH;
 use store::layout::DESK_SIZE;
-use store::layout::DESK_SPAN;
 use store::layout::DESKS;
 use store::layout::FIRST_DESK;
-use store::layout::HEADER;
 use store::layout::LONGEST;
 use store::layout::OPEN;
 use store::layout::RECENT_FIRST;
-use store::layout::RESERVE;
 use store::layout::SIZE_FIRST;
 use store::layout::SLOTS;
 use store::layout::SYMBOLS;
-use store::layout::USED;
 use store::layout::field_at;
 use store::sound;
 
@@ -136,110 +122,4 @@ fn feed_judged(store: &mut [u32], desk: u32, sample: u32, symbol: u32) -> Verdic
     }
     write_feed(store, desk, sample, symbol, &slots[..many], sought);
     Verdict::Done
-}
-
-// The smaller of two numbers.
-fn fewer(a: u32, b: u32) -> u32
-    ensures { λ r. ⌜ r ≡ min a b ⌝ }
-{
-    if a < b {
-        return a;
-    }
-    b
-}
-
-// The six recent symbols from a place on.
-fn six_from(store: &[u32], at: usize) -> [u32; 6]
-    requires { ⌜ at + deepest ≤ length (now store) ⌝ }
-    ensures { λ r. ⌜ r ≡ take deepest (drop at (now (store .entry))) ⌝ }
-{
-    [
-        store[at],
-        store[at + 1],
-        store[at + 2],
-        store[at + 3],
-        store[at + 4],
-        store[at + 5],
-    ]
-}
-
-// Where the contexts of a symbol that follows `recent` stand among the store's records.
-fn seek_in(store: &[u32], desk: u32, recent: &[u32]) -> Sought
-    requires { ⌜ (soundb (now store) ≡ true) × Askable desk (now recent) (used (now store)) (drop headerSize (now store)) ⌝ }
-    ensures { λ r. ⌜ Located desk (now (recent .entry)) (recordsIn (now (store .entry))) (r .found) (r .places) ⌝ }
-{
-    let many = store[USED] as usize;
-    seek(&store[HEADER..], many, desk, recent)
-}
-
-// Whether the contexts that are missing would take the sitting past its reservation. Where none is, what it holds need not be counted.
-fn is_past(store: &[u32], desk: u32, recent: &[u32], sought: Sought) -> bool
-    requires { ⌜ Found (now store) desk (now recent) (sought .found) (sought .places) ⌝ }
-    ensures { λ r. ⌜ r ≡ ltb (reserveAt (now (store .entry)) desk) (heldBy desk (recordsIn (now (store .entry))) + (length (now (recent .entry)) + 1 - sought .found)) ⌝ }
-{
-    let found = sought.found;
-    let places = sought.places;
-    if recent.len() < found {
-        return false;
-    }
-    let more = recent.len() + 1 - found;
-    let many = store[USED] as usize;
-    let held = held_by(&store[HEADER..], many, desk, places[0], places[found]);
-    let reserve = field_at(store, desk as usize, RESERVE) as usize;
-    reserve < held + more
-}
-
-// How many of the first `n` records are a desk's: the first is at a place, and the last not before another.
-fn held_by(numbers: &[u32], n: usize, desk: u32, first: usize, from: usize) -> usize
-    requires { ⌜ Spanned desk n first from (now numbers) ⌝ }
-    ensures { λ r. ⌜ r ≡ length (keep (ofDesk desk) (records n (now (numbers .entry)))) ⌝ }
-{
-    let past = desk * DESK_SPAN + DESK_SPAN;
-    place_from(numbers, n, from, past) - first
-}
-
-// Writes an accepted feed: the records, then the header. `recent` are the symbols before it, most recent first.
-fn write_feed(
-    store: &mut [u32],
-    desk: u32,
-    sample: u32,
-    symbol: u32,
-    recent: &[u32],
-    sought: Sought,
-)
-    requires { ⌜ Acceptable (now store) desk (sampleOf sample) symbol × (sample ≤ 1) × (now recent ≡ recentAt (now store) desk (sampleOf sample)) × Located desk (now recent) (recordsIn (now store)) (sought .found) (sought .places) ⌝ }
-    ensures { λ _. ⌜ FedStore (now (store .entry)) (now (store .exit)) desk (sampleOf sample) symbol ⌝ }
-{
-    let many = store[USED] as usize;
-    let body = &mut store[HEADER..];
-    let count = feed_records(body, many, desk, sample, symbol, recent, sought);
-    let start = FIRST_DESK + DESK_SIZE * desk as usize;
-    let i = sample as usize;
-    let size = start + (SIZE_FIRST + i);
-    let slots = start + (RECENT_FIRST + SLOTS * i);
-    note(store, count as u32, size, slots, symbol);
-}
-
-// Notes a feed in the header: how many records there are, one more symbol in the sample, and the symbol first of the recent ones.
-fn note(store: &mut [u32], used: u32, size: usize, slots: usize, symbol: u32)
-    requires { ⌜ Places size slots (now store) × (getD (now store) size 0 < longest) ⌝ }
-    ensures { λ _. ⌜ now (store .exit) ≡ noted used size slots symbol (now (store .entry)) ⌝ }
-{
-    store[USED] = used;
-    store[size] = store[size] + 1;
-    let end = slots + SLOTS;
-    move_on(&mut store[slots..end], symbol);
-}
-
-// A symbol comes first of six, and the oldest goes.
-fn move_on(slots: &mut [u32], symbol: u32)
-    requires { ⌜ length (now slots) ≡ deepest ⌝ }
-    ensures { λ _. ⌜ now (slots .exit) ≡ shifted symbol (now (slots .entry)) ⌝ }
-{
-    slots[5] = slots[4];
-    slots[4] = slots[3];
-    slots[3] = slots[2];
-    slots[2] = slots[1];
-    slots[1] = slots[0];
-    slots[0] = symbol;
 }

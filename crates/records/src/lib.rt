@@ -1,6 +1,6 @@
 // The records of a store: one dense run of records of 24 numbers, strictly rising in key. Read and found here.
 ghost use mathlib.Core.Path.{_≡_};
-ghost use Prim.Native.Nat.{_+_, _-_, _*_, _^_, _≤_, _<_};
+ghost use Prim.Native.Nat.{_+_, _*_, _^_, _≤_, _<_};
 ghost use lib.ListN.{length, take, drop, getD};
 ghost use Rattle.numbers.specs.Limits.{mostSymbols};
 ghost use Rattle.records.specs.Records.{width, records, lookup};

@@ -2,9 +2,9 @@
 use native.Mathlib.Omega.{arith}
 use borrow.Author.Needs.{needs}
 use Rattle.store.proofs.Standing.{sound-stands}
-use Rattle.feeding.proofs.Writing.{lent-ready, count-fits, note-asks, written}
-use Rattle.feeding.proofs.write_feed.Statement.{statement}
-use Rattle.feeding.proofs.write_feed.Tie as tie
+use Rattle.entering.proofs.Writing.{lent-ready, count-fits, note-asks, written}
+use Rattle.entering.proofs.write_feed.Statement.{statement}
+use Rattle.entering.proofs.write_feed.Tie as tie
 
 slice-read-many : tie.Need-slice-read-many
 slice-read-many c =

@@ -17,12 +17,12 @@ use Rattle.records.proofs.Lent.{agree-later}
 use Rattle.recording.proofs.Settling.{written-count}
 use Rattle.store.specs.Layout.{headerSize, storeSize, room, used, deskStart, field, sizeField, recentField, sizeAt, slotsAt, recordsIn}
 use Rattle.store.proofs.Standing.{sound-stands, slots-long}
-use Rattle.feeding.specs.FedStore.{FedStore, Acceptable, shifted, recordsFed}
-use Rattle.feeding.specs.Noted.{noted, Places}
-use Rattle.feeding.proofs.Numbering.{Fields, fields-of, own, other, kin, desk-places}
-use Rattle.feeding.proofs.Sets.{six-at, six-are}
-use Rattle.feeding.proofs.Filling.{room-enough}
-use Rattle.feeding.proofs.Noting.{noted-length, noted-before, noted-past, noted-used, noted-size, noted-symbol, noted-drop}
+use Rattle.entering.specs.FedStore.{FedStore, Acceptable, shifted, recordsFed}
+use Rattle.entering.specs.Noted.{noted, Places}
+use Rattle.entering.proofs.Numbering.{Fields, fields-of, own, other, kin, desk-places}
+use Rattle.entering.proofs.Sets.{six-at, six-are}
+use Rattle.entering.proofs.Filling.{room-enough}
+use Rattle.entering.proofs.Noting.{noted-length, noted-before, noted-past, noted-used, noted-size, noted-symbol, noted-drop}
 
 module _ (s : List ℕ) (d : ℕ) (i : Sample) (a : ℕ) (p : Acceptable s d i a) (m : ℕ) (ys : List ℕ) (long : length ys ≡ length (drop headerSize s))
     (w : Written (recordsFed s d i a) m (drop headerSize s) ys) where

@@ -2,9 +2,9 @@
 use native.Mathlib.Omega.{arith}
 use lib.ListN.{length-set}
 use borrow.Author.Needs.{needs}
-use Rattle.feeding.proofs.Noting.{moved-on}
-use Rattle.feeding.proofs.move_on.Statement.{statement}
-use Rattle.feeding.proofs.move_on.Tie as tie
+use Rattle.entering.proofs.Noting.{moved-on}
+use Rattle.entering.proofs.move_on.Statement.{statement}
+use Rattle.entering.proofs.move_on.Tie as tie
 
 slice-read-slots : tie.Need-slice-read-slots
 slice-read-slots c = search needs

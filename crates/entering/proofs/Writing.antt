@@ -14,13 +14,13 @@ use Rattle.records.proofs.Lent.{tail-lent, tail-back}
 use Rattle.recording.proofs.Settling.{written-count}
 use Rattle.store.specs.Layout.{headerSize, used, deskStart, sizeField, recentField, recordsIn}
 use Rattle.store.proofs.Standing.{sound-stands}
-use Rattle.feeding.specs.FedStore.{FedStore, Acceptable, recentAt, recordsFed}
-use Rattle.feeding.specs.Noted.{noted, Places}
-use Rattle.feeding.proofs.Numbering.{size-number, recent-number, desk-places}
-use Rattle.feeding.proofs.Filling.{room-enough}
-use Rattle.feeding.proofs.Clearing.{clear-from}
-use Rattle.feeding.proofs.Placing.{counted-long, counted-header, header-long, fed-store}
-use Rattle.feeding.proofs.Asking.{feedable}
+use Rattle.entering.specs.FedStore.{FedStore, Acceptable, recentAt, recordsFed}
+use Rattle.entering.specs.Noted.{noted, Places}
+use Rattle.entering.proofs.Numbering.{size-number, recent-number, desk-places}
+use Rattle.entering.proofs.Filling.{room-enough}
+use Rattle.entering.proofs.Clearing.{clear-from}
+use Rattle.entering.proofs.Placing.{counted-long, counted-header, header-long, fed-store}
+use Rattle.entering.proofs.Asking.{feedable}
 
 module _ (s : List ℕ) (d k a : ℕ) (p : Acceptable s d (sampleOf k) a) (one : k ≤ 1) (r : List ℕ) (e : r ≡ recentAt s d (sampleOf k)) where
   abbrev lent : List ℕ

@@ -1,9 +1,9 @@
 -- `feeding::six_from` meets its contract. Assumes nothing.
 use mathlib.Core.Path.{sym}
 use borrow.Author.Needs.{needs}
-use Rattle.feeding.proofs.Sets.{six-read}
-use Rattle.feeding.proofs.six_from.Statement.{statement}
-use Rattle.feeding.proofs.six_from.Tie as tie
+use Rattle.entering.proofs.Sets.{six-read}
+use Rattle.entering.proofs.six_from.Statement.{statement}
+use Rattle.entering.proofs.six_from.Tie as tie
 
 mul-t3 : tie.Need-mul-t3
 mul-t3 c = search needs

@@ -7,10 +7,10 @@ use Rattle.contexts.specs.Keys.{deskSpan}
 use Rattle.records.specs.Records.{records, keys}
 use Rattle.records.specs.Held.{keep, ofDesk}
 use Rattle.records.proofs.Rising.{rank-same}
-use Rattle.feeding.proofs.Asking.{desk-many}
+use Rattle.entering.proofs.Asking.{desk-many}
 use borrow.Author.Needs.{needs}
-use Rattle.feeding.proofs.held_by.Statement.{statement}
-use Rattle.feeding.proofs.held_by.Tie as tie
+use Rattle.entering.proofs.held_by.Statement.{statement}
+use Rattle.entering.proofs.held_by.Tie as tie
 
 many : (c : tie.After-place-from) → (let x = c .before .before .args in
     (x .first ≤ c .place-from .result) × (c .place-from .result - x .first ≡ length (keep (ofDesk (x .desk)) (records (x .n) (x .numbers .now)))))

@@ -1,10 +1,10 @@
 -- `feeding::is_past` meets its contract: refusal 10. Assumes nothing.
 use native.Mathlib.Omega.{arith}
 use Rattle.store.proofs.Standing.{sound-stands}
-use Rattle.feeding.proofs.Asking.{none-past, few-places, spanned, sum-small, past-is}
+use Rattle.entering.proofs.Asking.{none-past, few-places, spanned, sum-small, past-is}
 use borrow.Author.Needs.{needs}
-use Rattle.feeding.proofs.is_past.Statement.{statement}
-use Rattle.feeding.proofs.is_past.Tie as tie
+use Rattle.entering.proofs.is_past.Statement.{statement}
+use Rattle.entering.proofs.is_past.Tie as tie
 
 returns : tie.Need-returns
 returns c =

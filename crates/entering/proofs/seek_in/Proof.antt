@@ -1,10 +1,10 @@
 -- `feeding::seek_in` meets its contract. Assumes nothing.
 use native.Mathlib.Omega.{arith}
 use Rattle.store.proofs.Standing.{sound-stands}
-use Rattle.feeding.proofs.Asking.{lent-askable, located-in}
+use Rattle.entering.proofs.Asking.{lent-askable, located-in}
 use borrow.Author.Needs.{needs}
-use Rattle.feeding.proofs.seek_in.Statement.{statement}
-use Rattle.feeding.proofs.seek_in.Tie as tie
+use Rattle.entering.proofs.seek_in.Statement.{statement}
+use Rattle.entering.proofs.seek_in.Tie as tie
 
 shared-slice-read-many : tie.Need-shared-slice-read-many
 shared-slice-read-many c =

@@ -4,9 +4,9 @@ use mathlib.Core.Path.{ap, _∙_}
 use lib.ListN.{length, length-set}
 use lib.Seq.{getD-set-other}
 use borrow.Author.Needs.{needs}
-use Rattle.feeding.proofs.Noting.{noted-back, noted-length}
-use Rattle.feeding.proofs.note.Statement.{statement}
-use Rattle.feeding.proofs.note.Tie as tie
+use Rattle.entering.proofs.Noting.{noted-back, noted-length}
+use Rattle.entering.proofs.note.Statement.{statement}
+use Rattle.entering.proofs.note.Tie as tie
 
 slice-write-store : tie.Need-slice-write-store
 slice-write-store c = search needs

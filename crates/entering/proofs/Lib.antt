@@ -1,0 +1,13 @@
+pub mod Recent
+pub mod Before
+pub mod Counted
+pub mod Owning
+pub mod Clearing
+pub mod Header
+pub mod Filling
+pub mod Sets
+pub mod Numbering
+pub mod Noting
+pub mod Placing
+pub mod Asking
+pub mod Writing
