@@ -8,7 +8,7 @@ use lib.ListN.{length, drop, length-reverse}
 use lib.Dec.{eqb, ltb}
 use lib.IntN.{ℤ}
 use Rattle.contexts.specs.Sitting.{first, second, Progress}
-use Rattle.rows.specs.Rows.{rowWidth}
+use Rattle.numbers.specs.Limits.{rowWidth}
 use Rattle.rows.proofs.Written.{rows-read}
 use Rattle.replay.specs.Room.{Room}
 use Rattle.replay.specs.Table.{Line, _when_, number, applies, Outcome, refused, answered, verdictOf}

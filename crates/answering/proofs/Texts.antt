@@ -5,7 +5,8 @@ use mathlib.Core.Path.{_≡_, refl, sym, ap, ap₂, subst, _∙_}
 use mathlib.Core.List.{List, [], _∷_, _++_, append-assoc}
 use lib.ListN.{length, drop, length-append, length-drop}
 use borrow.Author.Tests.{ltb-false}
-use Rattle.rows.specs.Rows.{Row, rowWidth, numbersOf, reportOf}
+use Rattle.numbers.specs.Limits.{rowWidth}
+use Rattle.rows.specs.Rows.{Row, numbersOf, reportOf}
 use Rattle.rows.specs.Rows as rows
 use Rattle.rows.proofs.Written.{AllFit, rows-fit}
 use Rattle.estimate.specs.Recursion.{estimateOf}

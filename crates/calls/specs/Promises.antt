@@ -10,7 +10,8 @@ use Rattle.replay.specs.Machine.{Call, atDesk, asking, verdict, move}
 use Rattle.store.specs.Layout.{storeSize, room}
 use Rattle.store.specs.Sound.{soundb}
 use Rattle.store.specs.Meaning.{meaning}
-use Rattle.rows.specs.Rows.{Row, rowWidth, sheetOf}
+use Rattle.numbers.specs.Limits.{rowWidth}
+use Rattle.rows.specs.Rows.{Row, sheetOf}
 use Rattle.rules.specs.Report.{Reported}
 use Rattle.rules.specs.Rules.{Answer, reporting, reported, rules}
 

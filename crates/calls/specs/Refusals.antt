@@ -3,7 +3,8 @@ use Prim.Native.Nat.{ℕ, _*_}
 use mathlib.Core.List.{List}
 use lib.ListN.{drop}
 use Rattle.replay.specs.Table.{Outcome, refused, answered}
-use Rattle.rows.specs.Rows.{rowWidth, readRows}
+use Rattle.numbers.specs.Limits.{rowWidth}
+use Rattle.rows.specs.Rows.{readRows}
 use Rattle.rules.specs.Report.{Reported}
 use Rattle.rules.specs.Rules.{Answer, done, room, reported, point}
 use Rattle.calls.specs.declared.Refusal.{Refusal}

@@ -35,3 +35,7 @@ desks = 8
 -- K is from 1 to 4,096
 abbrev pub mostRoom : ℕ
 mostRoom = 4096
+
+-- "A row is 11 numbers"
+abbrev pub rowWidth : ℕ
+rowWidth = 11

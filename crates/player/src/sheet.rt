@@ -6,6 +6,7 @@ use crate::answers::say_score;
 use crate::scan::number_at;
 use crate::scan::within;
 use calls::ReportAnswer;
+use numbers::ROW_WIDTH;
 use report::report;
 ghost use Prim.Native.Nat.{_≤_};
 
@@ -14,8 +15,6 @@ const BLANK: u32 = 4294967295;
 
 // The longest sheet: 512 rows.
 const SHEET_NUMBERS: usize = 5632;
-
-const ROW_WIDTH: usize = 11;
 
 // Reads a report's numbers, and has a blank sheet for it.
 pub fn play_report(script: &[u8], at: usize, store: &[u32]) -> usize {

@@ -11,7 +11,8 @@ use lib.ListN.{length, getD, take, drop, length-append, length-map, length-take}
 use lib.Seq.{getD-drop}
 use mir.Syntax.{w64}
 use mir.Val.{SFits}
-use Rattle.printing.specs.Text.{ascii, blank, digit, decimal, signed, lineOf, headText, rowText, rowWidth, rowAt, rowsText, reportText, refusalText}
+use Rattle.numbers.specs.Limits.{rowWidth}
+use Rattle.printing.specs.Text.{ascii, blank, digit, decimal, signed, lineOf, headText, rowText, rowAt, rowsText, reportText, refusalText}
 use Rattle.printing.specs.Putting.{textBytes, Printable}
 use Rattle.printing.proofs.Decimals.{decimal-small, decimal-more}
 

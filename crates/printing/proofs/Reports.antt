@@ -9,7 +9,8 @@ use mathlib.Core.List.{List, [], _∷_, _++_, map, map-append, append-assoc, app
 use lib.IntN.{ℤ, pos}
 use lib.ListN.{length, getD, take, drop, length-append, length-drop}
 use lib.Seq.{take-suc, take-at, drop-append-add, length-take-le}
-use Rattle.printing.specs.Text.{lineOf, rowText, rowWidth, rowAt, rowsText}
+use Rattle.numbers.specs.Limits.{rowWidth}
+use Rattle.printing.specs.Text.{lineOf, rowText, rowAt, rowsText}
 use Rattle.printing.specs.Putting.{HasRoom, Puts, Printable}
 use Rattle.printing.proofs.Placing.{room-back, puts-then}
 

@@ -3,8 +3,7 @@ use Prim.Native.Nat.{ℕ, _+_, _*_, _≤_}
 use mathlib.Core.Path.{_≡_}
 use mathlib.Core.List.{List, _++_}
 use lib.ListN.{length, take, drop}
-use Rattle.numbers.specs.Limits.{mostSymbols}
-use Rattle.printing.specs.Text.{rowWidth}
+use Rattle.numbers.specs.Limits.{mostSymbols, rowWidth}
 
 -- "a sheet of 512 rows"
 abbrev pub mostRows : ℕ

@@ -7,6 +7,7 @@ use mathlib.Core.List.{List, [], _∷_, _++_, map}
 use lib.Dec.{ltb}
 use lib.IntN.{ℤ, pos, negsuc}
 use lib.ListN.{take, drop}
+use Rattle.numbers.specs.Limits.{rowWidth}
 
 -- the bytes of a quoted text, in ASCII
 unfoldable pub ascii : String → List ℕ
@@ -52,10 +53,6 @@ headText A D n m rows score = lineOf (pos A ∷ pos D ∷ pos n ∷ pos m ∷ po
 -- "a line for each row with kind, length, code and A counts": the first 3 + A numbers of the row
 abbrev pub rowText : ℕ → List ℕ → List ℕ
 rowText A row = lineOf (map pos (take (3 + A) row))
-
--- "A row is 11 numbers"
-abbrev pub rowWidth : ℕ
-rowWidth = 11
 
 -- row k of a sheet
 abbrev pub rowAt : List ℕ → ℕ → List ℕ

@@ -7,6 +7,7 @@ ghost use lib.ListN.{length};
 ghost use Rattle.printing.specs.Text.{decimal, lineOf, headText, rowText, rowsText, reportText, refusalText};
 ghost use Rattle.printing.specs.Text.{digit as Text·digit, signed as Text·signed};
 ghost use Rattle.printing.specs.Putting.{Printable, Printed, HasRoom, Puts};
+use numbers::ROW_WIDTH;
 
 // The numbers of a report's first line: A, D, n, m, the row count and the doubled score.
 pub struct Head {
@@ -20,8 +21,6 @@ pub struct Head {
 
 // Bytes enough for any report.
 pub const TEXT_BYTES: usize = 65536;
-
-const ROW_WIDTH: usize = 11;
 
 const LINE_FEED: u8 = b'\n';
 

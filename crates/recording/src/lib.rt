@@ -10,9 +10,9 @@ ghost use Rattle.records.specs.Held.{without, Removable};
 ghost use Rattle.records.specs.Bumped.{raised, Cell, Written};
 ghost use Rattle.records.specs.Fed.{fed, fresh};
 ghost use Rattle.records.specs.Located.{Ready, Insertable, Inserted, Appended};
+use records::COUNTS;
 use records::DESK_SPAN;
 use records::NEWEST;
-use records::SYMBOLS;
 use records::Sought;
 use records::WIDTH;
 use records::eight_at;
@@ -49,7 +49,7 @@ pub fn feed_records(
     requires { ⌜ Ready desk sample symbol (now recent) n (now numbers) (sought .found) (sought .places) ⌝ }
     ensures { λ r. ⌜ Written (fed desk (sampleOf sample) symbol (now (recent .entry)) (records n (now (numbers .entry)))) r (now (numbers .entry)) (now (numbers .exit)) ⌝ }
 {
-    let cell = 1 + (SYMBOLS * sample as usize + symbol as usize);
+    let cell = 1 + (COUNTS * sample as usize + symbol as usize);
     let found = sought.found;
     let places = sought.places;
     let mut done: usize = 0;

@@ -12,7 +12,7 @@ ghost use Rattle.records.specs.Located.{Located};
 pub const WIDTH: usize = 24;
 
 // How many counts a sample has in a record.
-pub const SYMBOLS: usize = 8;
+pub const COUNTS: usize = 8;
 
 // How many keys a desk has.
 pub const DESK_SPAN: u32 = 2097152;
@@ -38,7 +38,7 @@ pub fn counts_at(numbers: &[u32], at: usize) -> [[u32; 8]; 2]
     ensures { λ r. ⌜ r ≡ tableOf (recordAt at (now (numbers .entry))) ⌝ }
 {
     let first = eight_at(numbers, WIDTH * at + 1);
-    let second = eight_at(numbers, WIDTH * at + (1 + SYMBOLS));
+    let second = eight_at(numbers, WIDTH * at + (1 + COUNTS));
     [first, second]
 }
 

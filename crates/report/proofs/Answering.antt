@@ -9,7 +9,8 @@ use Rattle.estimate.specs.Score.{score, worths}
 use Rattle.estimate.specs.Recursion.{estimateOf}
 use Rattle.estimate.proofs.Integers.{minus}
 use Rattle.estimate.proofs.Optimal.{score-estimate}
-use Rattle.rows.specs.Rows.{Row, rowWidth, reportOf, readRows}
+use Rattle.numbers.specs.Limits.{rowWidth}
+use Rattle.rows.specs.Rows.{Row, reportOf, readRows}
 use Rattle.replay.specs.Room.{opened}
 use Rattle.replay.specs.Table.{Outcome, refused, answered}
 use Rattle.store.specs.Layout.{sizeAt}

@@ -9,13 +9,13 @@ use lib.Seq.{drop-at, drop-drop, length-take-le}
 use lib.Dec.{T, eqb, ltb}
 use lib.IntN.{ℤ}
 use borrow.Author.Tests.{eq-eqb, ne-eqb, lt-ltb, le-ltb, le-leb, lt-leb}
-use Rattle.numbers.specs.Limits.{mostSymbols, deepest, desks}
+use Rattle.numbers.specs.Limits.{mostSymbols, deepest, desks, rowWidth}
 use Rattle.contexts.specs.Sitting.{first, second, Progress, sat}
 use Rattle.estimate.specs.Score.{score, worths}
 use Rattle.estimate.specs.Recursion.{losses, joint, estimateOf}
 use Rattle.estimate.proofs.Integers.{minus}
 use Rattle.estimate.proofs.Optimal.{score-estimate}
-use Rattle.rows.specs.Rows.{Row, rowWidth, numbersOf, reportOf, sheetOf, readRows}
+use Rattle.rows.specs.Rows.{Row, numbersOf, reportOf, sheetOf, readRows}
 use Rattle.rows.proofs.Written.{AllFit, read-all}
 use Rattle.replay.specs.Room.{Opening, Desk, closed, opened, Room}
 use Rattle.replay.specs.Table.{Outcome, refused, answered, verdictOf}

@@ -6,7 +6,8 @@ use mathlib.Core.List.{List, _++_}
 use lib.ListN.{length, take, drop, length-drop}
 use Rattle.contexts.specs.Sitting.{Sitting}
 use Rattle.estimate.specs.Recursion.{estimateOf}
-use Rattle.rows.specs.Rows.{Row, rowWidth, reportOf, sheetOf}
+use Rattle.numbers.specs.Limits.{rowWidth}
+use Rattle.rows.specs.Rows.{Row, reportOf, sheetOf}
 use Rattle.rows.proofs.Written.{AllFit, rows-fit}
 use Rattle.records.specs.Records.{records}
 use Rattle.records.proofs.Lent.{tail-lent, tail-back}

@@ -1,8 +1,10 @@
 // The report on a desk: the best triple, its rows on the sheet, its score.
 use calls::Refusal;
 use calls::ReportAnswer;
+use numbers::DESKS;
+use numbers::MOST_ROOM;
+use numbers::ROW_WIDTH;
 use store::layout::DEPTH;
-use store::layout::DESKS;
 use store::layout::HEADER;
 use store::layout::OPEN;
 use store::layout::SIZE_FIRST;
@@ -16,21 +18,14 @@ ghost use mathlib.Core.Path.{_≡_};
 ghost use Prim.Native.Nat.{_+_, _/_, _^_, _≤_, _<_};
 ghost use lib.ListN.{length};
 ghost use lib.IntN.{pos, negℤ};
-ghost use Rattle.numbers.specs.Limits.{desks, mostRoom};
+ghost use Rattle.numbers.specs.Limits.{desks, mostRoom, rowWidth};
 ghost use Rattle.logarithm.specs.Table.{AreLogs};
 ghost use Rattle.store.specs.Layout.{headerSize};
 ghost use Rattle.store.specs.Meaning.{sittingAt};
 ghost use Rattle.calls.specs.Refusals.{reportOf};
 ghost use Rattle.calls.specs.Promises.{withRows, Reports};
-ghost use Rattle.rows.specs.Rows.{rowWidth};
 ghost use Rattle.rows.specs.Rows as rows;
 ghost use Rattle.report.specs.Desk.{deskIn, CanReportOn, WeighedDesk, DecidedDesk};
-
-// As many marks as a store can have records.
-const MOST_ROOM: usize = 4096;
-
-// How many numbers a row has.
-const ROW_WIDTH: usize = 11;
 
 // Writes a desk's report on the sheet, from row `place` on.
 pub fn report(store: &[u32], desk: u32, sheet: &mut [u32], place: u32) -> ReportAnswer

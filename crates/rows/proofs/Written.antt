@@ -6,14 +6,14 @@ use mathlib.Core.List.{List, [], _∷_, _++_, map, append-assoc, List·Memᴰ, L
 use lib.ListN.{length, set, take, drop}
 use lib.Seq.{paste, length-paste, take-at, drop-at}
 use lib.Dec.{T}
-use Rattle.numbers.specs.Limits.{mostSymbols, deepest}
+use Rattle.numbers.specs.Limits.{mostSymbols, deepest, rowWidth}
 use Rattle.contexts.specs.Context.{isContext, codeOf, decoded}
 use Rattle.contexts.specs.Sitting.{first, second, Sitting, eight}
 use Rattle.contexts.proofs.Strings.{context-more}
 use Rattle.contexts.proofs.Codes.{decoded-code}
 use Rattle.estimate.specs.Trees.{Kind, shared, own, Triple}
 use Rattle.rows.specs.Members.{Member, number, members}
-use Rattle.rows.specs.Rows.{Row, rowOf, rowsOf, rowWidth, numbersOf, sheetOf, kindOf, readRow, readRows}
+use Rattle.rows.specs.Rows.{Row, rowOf, rowsOf, numbersOf, sheetOf, kindOf, readRow, readRows}
 use Rattle.rows.proofs.Holding.{of-members}
 
 -- three numbers written before the eight counts c that were pasted

@@ -3,7 +3,7 @@ use Prim.Native.Nat.{ℕ, zero, suc}
 use mathlib.Core.List.{List, [], _∷_, _++_, map}
 use lib.ListN.{length, getD, take, drop}
 use lib.IntN.{ℤ, pos, _+ℤ_}
-use Rattle.numbers.specs.Limits.{mostSymbols}
+use Rattle.numbers.specs.Limits.{mostSymbols, rowWidth}
 use Rattle.contexts.specs.Context.{codeOf, decoded}
 use Rattle.contexts.specs.Sitting.{first, second, Sitting, eight}
 use Rattle.estimate.specs.Trees.{Kind, shared, own, Triple}
@@ -28,10 +28,6 @@ rowsOf x t = map (rowOf x) (members (x .symbols) (x .depth) t)
 -- the rows of a sitting's report
 abbrev pub reportOf : Sitting → List Row
 reportOf x = rowsOf x (estimateOf x)
-
--- "A row is 11 numbers"
-abbrev pub rowWidth : ℕ
-rowWidth = 11
 
 -- "kind .., length, code, eight counts"
 abbrev pub numbersOf : Row → List ℕ

@@ -4,10 +4,10 @@ ghost use mathlib.Core.List.{_∷_, _++_};
 ghost use Prim.Native.Nat.{ℕ, _+_, _≤_};
 ghost use lib.ListN.{length, drop, getD};
 ghost use lib.Seq.{paste};
-ghost use Rattle.numbers.specs.Limits.{mostSymbols, mostCounted};
+ghost use Rattle.numbers.specs.Limits.{mostSymbols, mostCounted, rowWidth};
 ghost use Rattle.contexts.specs.Sitting.{first, second, eight, rowIn, sumOf};
 ghost use Rattle.estimate.specs.Table.{countsIn};
-ghost use Rattle.rows.specs.Rows.{rowWidth, kindOf};
+ghost use Rattle.rows.specs.Rows.{kindOf};
 
 // Writes a row's eleven numbers at the beginning of the part lent.
 pub fn put_row(part: &mut [u32], kind: u32, len: u32, code: u32, counts: [[u32; 8]; 2])

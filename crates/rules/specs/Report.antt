@@ -8,7 +8,8 @@ use lib.IntN.{ℤ}
 use Rattle.contexts.specs.Sitting.{first, second, Sitting, Progress, sat}
 use Rattle.estimate.specs.Score.{score, worths}
 use Rattle.estimate.specs.Recursion.{estimateOf}
-use Rattle.rows.specs.Rows.{Row, rowWidth, reportOf}
+use Rattle.numbers.specs.Limits.{rowWidth}
+use Rattle.rows.specs.Rows.{Row, reportOf}
 use Rattle.replay.specs.Room.{Opening}
 use Rattle.replay.specs.Table.{Line, _when_}
 

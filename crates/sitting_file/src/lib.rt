@@ -3,6 +3,10 @@ ghost use mathlib.Core.Path.{_≡_};
 ghost use Prim.Native.Nat.{_+_};
 ghost use Rattle.sitting_file.specs.Format.{refusalNumber, judged, numberAt, headerOf, symbolsFrom, readOf};
 ghost use Rattle.sitting_file.specs.Samples.{InLimits};
+use numbers::DEEPEST;
+use numbers::FEWEST_SYMBOLS;
+use numbers::LONGEST;
+use numbers::MOST_SYMBOLS;
 
 // What an accepted file announces: A, D, n and m. Its symbols are its last n + m bytes.
 pub struct Shape {
@@ -36,14 +40,6 @@ enum Number {
     Value(u32, usize),
     Fault(Refusal),
 }
-
-const FEWEST_SYMBOLS: u32 = 2;
-
-const MOST_SYMBOLS: u32 = 8;
-
-const DEEPEST: u32 = 6;
-
-const LONGEST: u32 = 512;
 
 const HIGH_BIT: u32 = 128;
 

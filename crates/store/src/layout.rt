@@ -1,21 +1,9 @@
-// Where the numbers of a store stand, and document 01's limits.
+// Where the numbers of a store stand.
 ghost use mathlib.Core.Path.{_≡_};
 ghost use Prim.Native.Nat.{_≤_, _<_};
 ghost use lib.ListN.{length};
 ghost use Rattle.numbers.specs.Limits.{desks};
 ghost use Rattle.store.specs.Layout.{headerSize, field};
-
-pub const FEWEST_SYMBOLS: u32 = 2;
-
-pub const MOST_SYMBOLS: u32 = 8;
-
-pub const DEEPEST: u32 = 6;
-
-pub const LONGEST: u32 = 512;
-
-pub const DESKS: usize = 8;
-
-pub const MOST_ROOM: usize = 4096;
 
 // The header, and in it K and the number of records in use.
 pub const HEADER: usize = 2048;
@@ -47,17 +35,10 @@ pub const RECENT_SECOND: usize = 12;
 
 pub const SLOTS: usize = 6;
 
-// A record: its width, how many counts a sample has, and where each sample's begin. Its key is the first number.
-pub const WIDTH: usize = 24;
-
-pub const COUNTS: usize = 8;
-
+// Where each sample's counts begin in a record. Its key is the first number.
 pub const COUNTS_FIRST: usize = 1;
 
 pub const COUNTS_SECOND: usize = 9;
-
-// How many keys a desk has.
-pub const DESK_SPAN: u32 = 2097152;
 
 // One of a desk's numbers.
 pub fn field_at(store: &[u32], desk: usize, number: usize) -> u32

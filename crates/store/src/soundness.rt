@@ -11,20 +11,12 @@ ghost use Rattle.contexts.specs.Sitting.{sumOf};
 ghost use Rattle.store.specs.Layout.{headerSize};
 ghost use Rattle.store.specs.Sound.{below, frameOk, limitsOk, slotsOk, deskTest, reservedAt, quietFrom, countsOk, tableOk};
 ghost use Rattle.store.specs.Walk.{largestSum, Summed, oldestOk, endsOk, upMark, keyFits, marked, markOk, stepOk, tallyOk, passb};
-use super::layout::COUNTS;
 use super::layout::COUNTS_FIRST;
 use super::layout::COUNTS_SECOND;
-use super::layout::DEEPEST;
 use super::layout::DEPTH;
 use super::layout::DESK_SIZE;
-use super::layout::DESK_SPAN;
-use super::layout::DESKS;
-use super::layout::FEWEST_SYMBOLS;
 use super::layout::FIRST_DESK;
 use super::layout::HEADER;
-use super::layout::LONGEST;
-use super::layout::MOST_ROOM;
-use super::layout::MOST_SYMBOLS;
 use super::layout::OPEN;
 use super::layout::RECENT_FIRST;
 use super::layout::RECENT_SECOND;
@@ -35,8 +27,16 @@ use super::layout::SIZE_SECOND;
 use super::layout::SLOTS;
 use super::layout::SYMBOLS;
 use super::layout::USED;
-use super::layout::WIDTH;
 use super::layout::field_at;
+use numbers::DEEPEST;
+use numbers::DESKS;
+use numbers::FEWEST_SYMBOLS;
+use numbers::LONGEST;
+use numbers::MOST_ROOM;
+use numbers::MOST_SYMBOLS;
+use records::COUNTS;
+use records::DESK_SPAN;
+use records::WIDTH;
 
 // The length, the room and the number of records in use.
 pub fn frame_ok(store: &[u32]) -> bool

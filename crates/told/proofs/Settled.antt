@@ -8,7 +8,7 @@ use lib.IntN.{ℤ}
 use lib.Ieee.{Float}
 use Rattle.replay.specs.Table.{Outcome, refused, answered}
 use Rattle.replay.specs.Machine.{Call, atDesk, asking, roomQuestion}
-use Rattle.rows.specs.Rows.{rowWidth}
+use Rattle.numbers.specs.Limits.{rowWidth}
 use Rattle.rows.proofs.Written.{rows-read}
 use Rattle.rules.specs.Rules.{Answer, done, room, reported, point, charting, rules}
 use Rattle.store.specs.Sound.{soundb}

@@ -15,3 +15,4 @@ pub mod Putting
 pub mod Reporting
 pub mod Onward
 pub mod Whole
+pub mod WholeSheet

@@ -10,7 +10,8 @@ use lib.Seq.{drop-drop}
 use lib.Dec.{eqb}
 use Rattle.contexts.specs.Sitting.{first, second, eight}
 use Rattle.estimate.specs.Table.{countsIn}
-use Rattle.rows.specs.Rows.{rowWidth, kindOf}
+use Rattle.numbers.specs.Limits.{rowWidth}
+use Rattle.rows.specs.Rows.{kindOf}
 use Rattle.weighing.specs.declared.Way.{Way}
 use Rattle.weighing.specs.declared.Plan.{Plan}
 use Rattle.weighing.specs.Plans.{ownPlan, planOf}

@@ -1,13 +1,11 @@
 -- A whole weighing: the visit to the empty context of a desk. Assumes nothing.
 use Prim.Native.Nat.{ℕ, _+_, _*_, _≤_}
 use mathlib.Core.Path.{_≡_, refl, sym, ap, subst, subst₂, _∙_}
-use mathlib.Core.Bool.{true, false}
-use mathlib.Core.List.{List, [], _++_}
+use mathlib.Core.List.{List, []}
 use native.Mathlib.Omega.{arith}
-use native.Mathlib.Nat.{zero-add}
-use lib.ListN.{length, drop, length-map}
+use lib.ListN.{length, length-map}
 use Rattle.numbers.specs.Limits.{deepest}
-use Rattle.contexts.specs.Context.{isContext, codeOf}
+use Rattle.contexts.specs.Context.{isContext}
 use Rattle.contexts.specs.Keys.{deskSpan, keyOf, contextOf}
 use Rattle.contexts.specs.Sitting.{first, second}
 use Rattle.contexts.proofs.KeyOrder.{digits-nil, contextOf-key}
@@ -16,22 +14,19 @@ use Rattle.estimate.specs.Recursion.{losses, estimateOf}
 use Rattle.estimate.specs.Table.{CostsOf}
 use Rattle.estimate.specs.declared.ByKind.{ByKind}
 use Rattle.rows.specs.Members.{members}
-use Rattle.rows.specs.Rows.{rowOf, sheetOf, reportOf}
+use Rattle.rows.specs.Rows.{rowOf}
 use Rattle.rows.proofs.Walking.{walk-all}
 use Rattle.records.specs.Records.{records, keys}
 use Rattle.records.specs.Held.{rank}
 use Rattle.records.proofs.Rising.{up-to-middle, above-middle}
 use Rattle.weighing.specs.declared.Desk.{Desk}
 use Rattle.weighing.specs.declared.Weighed.{Weighed}
-use Rattle.weighing.specs.declared.Spot.{Spot}
 use Rattle.weighing.specs.Sitting.{sittingIn, Weighable}
 use Rattle.weighing.specs.Trees.{leastAt, membersAt}
 use Rattle.weighing.specs.Visit.{endOf, Ready, Visited}
 use Rattle.weighing.specs.Weighs.{Decided, Weighs}
-use Rattle.weighing.specs.Plans.{wanted}
-use Rattle.weighing.specs.Writing.{sheetFor, Written, rowsFrom, CanWrite, CanReport, Reports}
 
-root-key : (k : Desk) → k .number * deskSpan ≡ keyOf (k .number) []
+pub root-key : (k : Desk) → k .number * deskSpan ≡ keyOf (k .number) []
 root-key k = let z = digits-nil deepest in omega arith
 
 pub root-is : (k : Desk) → contextOf (k .number * deskSpan) ≡ []
@@ -80,31 +75,3 @@ module _ {k : Desk} {n : ℕ} {l : List ℕ} (w : Weighable k n l) {p : ℕ} (at
           ∙ sym (length-map (members (k .symbols) (k .depth) (estimateOf (sittingIn k (records n l)))) (rowOf (sittingIn k (records n l))));
       decided = decided;
     })
-
-module _ (k : Desk) (n : ℕ) (l : List ℕ) (w : Weighable k n l) where
-  -- ---- the whole report written
-
-  abbrev pub rootSpot : Spot
-  rootSpot = record { key = k .number * deskSpan; span = deskSpan; left = k .depth; code = 0; power = 1; way = record { joint = true; first = false; second = false } }
-
-  root-rows : rowsFrom k n l [] rootSpot ≡ sheetOf (reportOf (sittingIn k (records n l)))
-  unfolding wanted
-  root-rows = ap (sheetFor (sittingIn k (records n l))) (walk-all (k .symbols) (k .depth) (losses (sittingIn k (records n l))))
-
-  pub root-can : (kept sheet : List ℕ) → CanReport k n l kept sheet → (costs : ByKind) → CostsOf (k .symbols) (k .n) (k .m) costs → CanWrite k costs n l kept (length sheet) [] rootSpot 0
-  unfolding isContext codeOf
-  root-can kept sheet q costs priced = record {
-    weighable = w;
-    priced = priced;
-    decided = q .decided;
-    context = tt;
-    key-is = root-key k;
-    span-is = refl;
-    left-is = omega arith;
-    code-is = refl;
-    power-is = refl;
-    room = omega (arith, q .room, ap length root-rows);
-  }
-
-  pub reported : (before after : List ℕ) (past : ℕ) → Written before after 0 (rowsFrom k n l [] rootSpot) past → Reports k n l before after
-  reported before after past g = record { sheet = subst (λ (rows : List ℕ). after ≡ rows ++ drop (length rows) before) root-rows (g .sheet ∙ rw zero-add) }

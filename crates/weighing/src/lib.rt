@@ -1,6 +1,5 @@
 // The weighing of a desk's records: what its trees lose at least, how many rows its report has, the decisions, kept beside the records,
 // and the rows written by them. `logs` is what `logarithm::logs` gave, lent by the caller and only handed on to `estimate`.
-use estimate::ByKind;
 ghost use mathlib.Core.Path.{_≡_};
 ghost use mathlib.Core.Bool.{cond, not, _&&_};
 ghost use Prim.Native.Nat.{_+_, _≤_, _<_, _^_, min};
@@ -17,12 +16,10 @@ ghost use Rattle.weighing.specs.Plans.{goesOn, ownPlan, planOf};
 ghost use Rattle.weighing.specs.Writing.{Written, numbersIf, numbersHere, Roomy, rowsFrom, CanWrite, CanWriteHere, WroteNumbers, keptMark, CanReport, Reports};
 ghost use Rattle.weighing.specs.Weighs.{CanWeigh, Weighs};
 ghost use Rattle.weighing.specs.Visit.{Stands, Countable, CanVisit, Visited, Small, LeafOf, LeafHere, SplitOf, SplitHere, SumOf, Fits, NoneOf, CanAdd, ChildOf, CanAddUnseen, UnseenOf, leafMark, splitMark};
-
-const WIDTH: usize = 24;
-
-const DESK_SPAN: u32 = 2097152;
-
-const ROW_WIDTH: usize = 11;
+use estimate::ByKind;
+use numbers::ROW_WIDTH;
+use records::DESK_SPAN;
+use records::WIDTH;
 
 // An open desk: its number, A, D and the samples' lengths.
 pub struct Desk {

@@ -5,7 +5,7 @@ use mathlib.Core.Path.{refl, subst}
 use mathlib.Core.List.{List}
 use borrow.Author.Needs.{needs}
 use lib.ListN.{length, take, drop}
-use Rattle.rows.specs.Rows.{rowWidth}
+use Rattle.numbers.specs.Limits.{rowWidth}
 use Rattle.records.proofs.Lent.{tail-lent}
 use Rattle.store.specs.Layout.{headerSize, used}
 use Rattle.weighing.specs.Writing.{Reports}

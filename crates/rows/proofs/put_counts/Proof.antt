@@ -6,8 +6,7 @@ use mathlib.Core.Path.{_≡_, ap, sym, _∙_}
 use mathlib.Core.List.{List}
 use lib.ListN.{length, getD, set}
 use lib.Seq.{paste, paste-zero, paste-suc, length-paste}
-use Rattle.numbers.specs.Limits.{mostSymbols}
-use Rattle.rows.specs.Rows.{rowWidth}
+use Rattle.numbers.specs.Limits.{mostSymbols, rowWidth}
 use Rattle.rows.proofs.put_counts.Statement.{statement}
 use Rattle.rows.proofs.put_counts.Tie as tie
 

@@ -5,7 +5,8 @@ use Prim.Native.Nat.{ℕ}
 use borrow.Author.Needs.{needs}
 use lib.ListN.{length}
 use Rattle.weighing.specs.Writing.{Written, rowsFrom, CanWrite}
-use Rattle.weighing.proofs.Whole as whole
+use Rattle.weighing.proofs.Whole.{root-is}
+use Rattle.weighing.proofs.WholeSheet as whole
 use Rattle.weighing.proofs.write_rows.Statement.{statement}
 use Rattle.weighing.proofs.write_rows.Tie as tie
 
@@ -23,7 +24,7 @@ write-from-requires c κs =
     let w = s .pre .1 .weighable in
     subst
     (λ (u : List ℕ). CanWrite (x .desk) (costs .result) (x .n) (x .numbers .now) (x .kept .now) (length (x .sheet .now)) u (whole.rootSpot (x .desk) (x .n) (x .numbers .now) w) 0)
-    (sym (whole.root-is (x .desk)))
+    (sym (root-is (x .desk)))
     (whole.root-can (x .desk) (x .n) (x .numbers .now) w (x .kept .now) (x .sheet .now) (s .pre .1) (costs .result) (costs .ensures))
 
 same-length : tie.Need-same-length
@@ -39,7 +40,7 @@ returns c =
     whole.reported (x .desk) (x .n) (x .numbers .now) w (x .sheet .now) (g .last .1 .1 .1 .1 .1 .0) (g .result)
     (subst
     (λ (u : List ℕ). Written (x .sheet .now) (g .last .1 .1 .1 .1 .1 .0) 0 (rowsFrom (x .desk) (x .n) (x .numbers .now) u (whole.rootSpot (x .desk) (x .n) (x .numbers .now) w)) (g .result))
-    (whole.root-is (x .desk))
+    (root-is (x .desk))
     (g .ensures))
 
 pub write-rows-spec : {M : Type 1} → statement M
