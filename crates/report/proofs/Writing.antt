@@ -15,7 +15,7 @@ use Rattle.store.specs.Layout.{headerSize, used, recordsIn}
 use Rattle.store.specs.Meaning.{sittingAt}
 use Rattle.weighing.specs.Sitting.{sittingIn, Weighable}
 use Rattle.weighing.specs.Weighs.{Decided}
-use Rattle.weighing.specs.Writing.{CanReport, Reports}
+use Rattle.listing.specs.Writing.{CanReport, Reports}
 use Rattle.weighing.specs.declared.Desk.{Desk}
 use Rattle.calls.specs.Promises.{withRows}
 use Rattle.report.specs.Desk.{deskIn, CanReportOn, DecidedDesk}

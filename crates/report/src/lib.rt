@@ -93,7 +93,7 @@ fn write(logs: &[u32], store: &[u32], desk: Desk, kept: &[u8], sheet: &mut [u32]
 {
     let used = store[USED] as usize;
     let start = ROW_WIDTH * place as usize;
-    weighing::write_rows(
+    listing::write_rows(
         logs,
         &store[HEADER..],
         used,

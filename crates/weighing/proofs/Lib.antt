@@ -9,10 +9,4 @@ pub mod Visiting
 pub mod Steps
 pub mod Turning
 pub mod Turned
-pub mod Planning
-pub mod Sheets
-pub mod Putting
-pub mod Reporting
-pub mod Onward
 pub mod Whole
-pub mod WholeSheet

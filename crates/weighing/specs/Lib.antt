@@ -2,5 +2,3 @@ pub mod Sitting
 pub mod Trees
 pub mod Visit
 pub mod Weighs
-pub mod Plans
-pub mod Writing

@@ -8,7 +8,7 @@ use lib.ListN.{length, take, drop}
 use Rattle.numbers.specs.Limits.{rowWidth}
 use Rattle.records.proofs.Lent.{tail-lent}
 use Rattle.store.specs.Layout.{headerSize, used}
-use Rattle.weighing.specs.Writing.{Reports}
+use Rattle.listing.specs.Writing.{Reports}
 use Rattle.report.proofs.Standing.{sized}
 use Rattle.report.proofs.Writing.{can-write, has-written}
 use Rattle.report.proofs.write.Statement.{statement}

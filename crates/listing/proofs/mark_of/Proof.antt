@@ -7,10 +7,10 @@ use lib.ListN.{getD}
 use Rattle.numbers.proofs.Tests.{of-true}
 use Rattle.records.specs.Records.{records}
 use Rattle.records.specs.Held.{held}
 use Rattle.weighing.proofs.Visiting.{held-there}
 use borrow.Author.Needs.{needs}
-use Rattle.weighing.proofs.mark_of.Statement.{statement}
-use Rattle.weighing.proofs.mark_of.Tie as tie
+use Rattle.listing.proofs.mark_of.Statement.{statement}
+use Rattle.listing.proofs.mark_of.Tie as tie
 
 place-of-requires : tie.Need-place-of-requires
 place-of-requires c κs = search needs

@@ -4,11 +4,11 @@ use mathlib.Core.List.{List}
 use Prim.Native.Nat.{ℕ}
 use borrow.Author.Needs.{needs}
 use lib.ListN.{length}
-use Rattle.weighing.specs.Writing.{Written, rowsFrom, CanWrite}
+use Rattle.listing.specs.Writing.{Written, rowsFrom, CanWrite}
 use Rattle.weighing.proofs.Whole.{root-is}
-use Rattle.weighing.proofs.WholeSheet as whole
-use Rattle.weighing.proofs.write_rows.Statement.{statement}
-use Rattle.weighing.proofs.write_rows.Tie as tie
+use Rattle.listing.proofs.WholeSheet as whole
+use Rattle.listing.proofs.write_rows.Statement.{statement}
+use Rattle.listing.proofs.write_rows.Tie as tie
 
 costs-of-requires : tie.Need-costs-of-requires
 costs-of-requires c κs = search needs

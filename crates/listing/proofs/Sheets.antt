@@ -17,9 +17,9 @@ use Rattle.estimate.specs.Table.{countsIn}
 use Rattle.estimate.proofs.Tables.{table-counts}
 use Rattle.rows.specs.Members.{Member, member, number, onlyIf, gather}
 use Rattle.rows.specs.Rows.{rowOf, numbersOf, sheetOf}
-use Rattle.weighing.specs.declared.Plan.{Plan}
-use Rattle.weighing.specs.Plans.{hereOf}
-use Rattle.weighing.specs.Writing.{sheetFor, Written, numbersHere}
+use Rattle.listing.specs.declared.Plan.{Plan}
+use Rattle.listing.specs.Plans.{hereOf}
+use Rattle.listing.specs.Writing.{sheetFor, Written, numbersHere}
 
 -- ---- what is written
 

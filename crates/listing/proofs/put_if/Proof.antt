@@ -1,10 +1,10 @@
 -- `weighing::put_if` meets its contract. Assumes nothing.
 use native.Mathlib.Omega.{arith}
 use borrow.Author.Tests.{not-true, not-false}
-use Rattle.weighing.proofs.Putting.{if-none, if-long, if-one}
+use Rattle.listing.proofs.Putting.{if-none, if-long, if-one}
 use borrow.Author.Needs.{needs}
-use Rattle.weighing.proofs.put_if.Statement.{statement}
-use Rattle.weighing.proofs.put_if.Tie as tie
+use Rattle.listing.proofs.put_if.Statement.{statement}
+use Rattle.listing.proofs.put_if.Tie as tie
 
 returns : tie.Need-returns
 returns c = let x = c .before .before .args in if-none (x .sheet .now) (x .to) (x .on) (x .kind) (x .len) (x .code) (x .counts) (not-true _ (c .if1 .taken))

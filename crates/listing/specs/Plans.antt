@@ -8,8 +8,8 @@ use Rattle.estimate.specs.Trees.{shared, own}
 use Rattle.estimate.specs.Recursion.{Losses}
 use Rattle.rows.specs.Members.{Member, member, onlyIf}
 use Rattle.rows.specs.Walk.{owns, walk}
-use Rattle.weighing.specs.declared.Way.{Way}
-use Rattle.weighing.specs.declared.Plan.{Plan}
+use Rattle.listing.specs.declared.Way.{Way}
+use Rattle.listing.specs.declared.Plan.{Plan}
 
 -- the members that a way wants at s and below it: those of both trees together, or those of the own trees that still go on
 unfoldable pub wanted : ℕ → ℕ → Losses → Way → List ℕ → List Member

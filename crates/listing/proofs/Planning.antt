@@ -12,11 +12,11 @@ use Rattle.estimate.specs.Trees.{shared, own}
 use Rattle.estimate.specs.Recursion.{Losses}
 use Rattle.rows.specs.Members.{Member, member, onlyIf, gather}
 use Rattle.rows.specs.Walk.{older, separateAt, jointAt, leafAt, owns, walk}
-use Rattle.weighing.specs.declared.Way.{Way}
-use Rattle.weighing.specs.declared.Plan.{Plan}
+use Rattle.listing.specs.declared.Way.{Way}
+use Rattle.listing.specs.declared.Plan.{Plan}
 use Rattle.weighing.specs.Trees.{choice, markAt}
-use Rattle.weighing.specs.Plans.{wanted, goesOn, ownPlan, planOf, hereOf}
+use Rattle.listing.specs.Plans.{wanted, goesOn, ownPlan, planOf, hereOf}
 use Rattle.weighing.proofs.Standing.{gather-empty, owns-none}
 
 -- a way by its three parts
 abbrev way : Bool → Bool → Bool → Way

@@ -19,18 +19,18 @@ use Rattle.rows.specs.Rows.{sheetOf}
 use Rattle.rows.specs.Walk.{older}
 use Rattle.records.specs.Records.{records, keys}
 use Rattle.records.specs.Held.{rank}
 use Rattle.weighing.specs.declared.Desk.{Desk}
 use Rattle.weighing.specs.declared.Context.{Context}
-use Rattle.weighing.specs.declared.Spot.{Spot}
-use Rattle.weighing.specs.declared.Way.{Way}
+use Rattle.listing.specs.declared.Spot.{Spot}
+use Rattle.listing.specs.declared.Way.{Way}
 use Rattle.weighing.specs.Sitting.{sittingIn}
 use Rattle.weighing.specs.Visit.{Ready}
-use Rattle.weighing.specs.Plans.{wanted}
-use Rattle.weighing.specs.Writing.{sheetFor, Written, CanWrite}
+use Rattle.listing.specs.Plans.{wanted}
+use Rattle.listing.specs.Writing.{sheetFor, Written, CanWrite}
 use Rattle.weighing.proofs.Blocks.{key-older}
 use Rattle.weighing.proofs.Cursor.{within}
 use Rattle.weighing.proofs.Steps.{pow-le, after, deeper, room, step-is, step-small, key-small, child-context}
-use Rattle.weighing.proofs.Sheets.{written-none, written-append, gather-next, gather-room}
+use Rattle.listing.proofs.Sheets.{written-none, written-append, gather-next, gather-room}
 
 -- before the child at a of the context s, where d symbols are left below the children and w is wanted of them
 pub record Onward (k : Desk) (n : ℕ) (l : List ℕ) (s : List ℕ) (d step power : ℕ) (w : Way) (to a key code : ℕ) (old cur : List ℕ) (past : ℕ) : Type 0 where

@@ -1,8 +1,8 @@
 -- `weighing::own_plan` meets its contract. Assumes nothing.
-use Rattle.weighing.proofs.Putting.{own-plan-is}
+use Rattle.listing.proofs.Putting.{own-plan-is}
 use borrow.Author.Needs.{needs}
-use Rattle.weighing.proofs.own_plan.Statement.{statement}
-use Rattle.weighing.proofs.own_plan.Tie as tie
+use Rattle.listing.proofs.own_plan.Statement.{statement}
+use Rattle.listing.proofs.own_plan.Tie as tie
 
 but-not-requires : tie.Need-but-not-requires
 but-not-requires c κs = search needs

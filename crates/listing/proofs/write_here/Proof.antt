@@ -1,12 +1,12 @@
 -- `weighing::write_here` meets its contract. Assumes nothing.
 use mathlib.Core.Path.{_≡_, ap, _∙_}
-use Rattle.weighing.specs.declared.Plan.{Plan}
-use Rattle.weighing.specs.Plans.{planOf}
-use Rattle.weighing.specs.Writing.{keptPlan}
-use Rattle.weighing.proofs.Putting.{roomy-as, written-as}
+use Rattle.listing.specs.declared.Plan.{Plan}
+use Rattle.listing.specs.Plans.{planOf}
+use Rattle.listing.specs.Writing.{keptPlan}
+use Rattle.listing.proofs.Putting.{roomy-as, written-as}
 use borrow.Author.Needs.{needs}
-use Rattle.weighing.proofs.write_here.Statement.{statement}
-use Rattle.weighing.proofs.write_here.Tie as tie
+use Rattle.listing.proofs.write_here.Statement.{statement}
+use Rattle.listing.proofs.write_here.Tie as tie
 
 mark-of-requires : tie.Need-mark-of-requires
 mark-of-requires c κs = search needs

@@ -1,8 +1,8 @@
 -- `weighing::but_not` meets its contract. Assumes nothing.
 use mathlib.Core.Path.{sym}
 use mathlib.Core.Bool.{and-true, and-false}
-use Rattle.weighing.proofs.but_not.Statement.{statement}
-use Rattle.weighing.proofs.but_not.Tie as tie
+use Rattle.listing.proofs.but_not.Statement.{statement}
+use Rattle.listing.proofs.but_not.Tie as tie
 
 returns : tie.Need-returns
 returns c = rw (c .if1 .taken) (sym (and-false (c .before .args .x)))

@@ -16,14 +16,14 @@ use Rattle.rows.specs.Members.{Member}
 use Rattle.rows.specs.Rows.{rowOf, reportOf, sheetOf, kindOf}
 use Rattle.records.specs.Records.{records, keys, lookup}
 use Rattle.records.specs.Held.{rank, held, tableOf, Standing}
 use Rattle.weighing.specs.declared.Desk.{Desk}
-use Rattle.weighing.specs.declared.Plan.{Plan}
-use Rattle.weighing.specs.declared.Spot.{Spot}
-use Rattle.weighing.specs.declared.Step.{Step}
+use Rattle.listing.specs.declared.Plan.{Plan}
+use Rattle.listing.specs.declared.Spot.{Spot}
+use Rattle.listing.specs.declared.Step.{Step}
 use Rattle.weighing.specs.Sitting.{sittingIn, Weighable}
 use Rattle.weighing.specs.Visit.{spanOf, Small, leafMark}
 use Rattle.weighing.specs.Weighs.{Decided}
-use Rattle.weighing.specs.Plans.{wanted, planOf}
+use Rattle.listing.specs.Plans.{wanted, planOf}
 
 -- the numbers of the rows of some members
 abbrev pub sheetFor : Sitting → List Member → List ℕ

@@ -14,12 +14,12 @@ use Rattle.estimate.specs.declared.ByKind.{ByKind}
 use Rattle.rows.specs.Rows.{sheetOf, reportOf}
 use Rattle.rows.proofs.Walking.{walk-all}
 use Rattle.records.specs.Records.{records}
 use Rattle.weighing.specs.declared.Desk.{Desk}
-use Rattle.weighing.specs.declared.Spot.{Spot}
+use Rattle.listing.specs.declared.Spot.{Spot}
 use Rattle.weighing.specs.Sitting.{sittingIn, Weighable}
-use Rattle.weighing.specs.Plans.{wanted}
-use Rattle.weighing.specs.Writing.{sheetFor, Written, rowsFrom, CanWrite, CanReport, Reports}
+use Rattle.listing.specs.Plans.{wanted}
+use Rattle.listing.specs.Writing.{sheetFor, Written, rowsFrom, CanWrite, CanReport, Reports}
 use Rattle.weighing.proofs.Whole.{root-key}
 
 module _ (k : Desk) (n : ℕ) (l : List ℕ) (w : Weighable k n l) where
   abbrev pub rootSpot : Spot

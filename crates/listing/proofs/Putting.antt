@@ -12,11 +12,11 @@ use Rattle.contexts.specs.Sitting.{first, second, eight}
 use Rattle.estimate.specs.Table.{countsIn}
 use Rattle.numbers.specs.Limits.{rowWidth}
 use Rattle.rows.specs.Rows.{kindOf}
-use Rattle.weighing.specs.declared.Way.{Way}
-use Rattle.weighing.specs.declared.Plan.{Plan}
-use Rattle.weighing.specs.Plans.{ownPlan, planOf}
-use Rattle.weighing.specs.Writing.{Written, numbersIf, numbersHere, Roomy}
-use Rattle.weighing.proofs.Sheets.{written-none, written-append}
+use Rattle.listing.specs.declared.Way.{Way}
+use Rattle.listing.specs.declared.Plan.{Plan}
+use Rattle.listing.specs.Plans.{ownPlan, planOf}
+use Rattle.listing.specs.Writing.{Written, numbersIf, numbersHere, Roomy}
+use Rattle.listing.proofs.Sheets.{written-none, written-append}
 
 -- ---- a decision read back
 

@@ -1,10 +1,10 @@
 -- `weighing::plan_of` meets its contract. Assumes nothing.
 use mathlib.Core.Path.{_∙_}
 use borrow.Author.Tests.{not-true, not-false}
-use Rattle.weighing.proofs.Putting.{plan-own, plan-shared, plan-separate, plan-split}
+use Rattle.listing.proofs.Putting.{plan-own, plan-shared, plan-separate, plan-split}
 use borrow.Author.Needs.{needs}
-use Rattle.weighing.proofs.plan_of.Statement.{statement}
-use Rattle.weighing.proofs.plan_of.Tie as tie
+use Rattle.listing.proofs.plan_of.Statement.{statement}
+use Rattle.listing.proofs.plan_of.Tie as tie
 
 own-plan-requires : tie.Need-own-plan-requires
 own-plan-requires c κs = search needs

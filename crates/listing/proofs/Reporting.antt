@@ -18,23 +18,23 @@ use Rattle.rows.specs.Members.{gather}
 use Rattle.rows.specs.Walk.{older}
 use Rattle.records.specs.Records.{records, keys, lookup}
 use Rattle.records.specs.Held.{rank, held, tableOf}
 use Rattle.weighing.specs.declared.Desk.{Desk}
-use Rattle.weighing.specs.declared.Plan.{Plan}
-use Rattle.weighing.specs.declared.Spot.{Spot}
-use Rattle.weighing.specs.declared.Step.{Step}
-use Rattle.weighing.specs.declared.Way.{Way}
+use Rattle.listing.specs.declared.Plan.{Plan}
+use Rattle.listing.specs.declared.Spot.{Spot}
+use Rattle.listing.specs.declared.Step.{Step}
+use Rattle.listing.specs.declared.Way.{Way}
 use Rattle.weighing.specs.Sitting.{sittingIn}
 use Rattle.weighing.specs.Trees.{markAt, markOf}
-use Rattle.weighing.specs.Plans.{wanted, goesOn, planOf, hereOf}
+use Rattle.listing.specs.Plans.{wanted, goesOn, planOf, hereOf}
 use Rattle.weighing.specs.Visit.{leafMark}
-use Rattle.weighing.specs.Writing.{sheetFor, Written, numbersHere, keptMark, keptPlan, CanWrite, CanWriteHere, WroteNumbers}
+use Rattle.listing.specs.Writing.{sheetFor, Written, numbersHere, keptMark, keptPlan, CanWrite, CanWriteHere, WroteNumbers}
 use Rattle.weighing.proofs.Cursor.{within}
 use Rattle.weighing.proofs.Flat.{mark-flat}
 use Rattle.weighing.proofs.Counts.{table-under, table-small, costs-small, absent-flat, absent-losses}
 use Rattle.weighing.proofs.Choosing as choosing
 use Rattle.weighing.proofs.Visiting.{held-there}
-use Rattle.weighing.proofs.Planning.{wanted-split, wanted-leaf, wanted-stop, goes-deeper}
-use Rattle.weighing.proofs.Sheets.{written-append, sheet-append, here-numbers}
+use Rattle.listing.proofs.Planning.{wanted-split, wanted-leaf, wanted-stop, goes-deeper}
+use Rattle.listing.proofs.Sheets.{written-append, sheet-append, here-numbers}
 
 module _ (k : Desk) (costs : ByKind) (n : ℕ) (l kept : List ℕ) (top : ℕ) (s : List ℕ) (c : Spot) (to : ℕ) (q : CanWrite k costs n l kept top s c to) where
   abbrev x : Sitting

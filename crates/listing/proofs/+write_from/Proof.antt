@@ -7,19 +7,19 @@ use native.Mathlib.Omega.{arith}
 use borrow.Author.Tests.{not-true, not-false}
 use lib.ListN.{length}
 use Rattle.contexts.specs.Keys.{contextOf}
-use Rattle.weighing.specs.Plans.{goesOn}
-use Rattle.weighing.specs.Writing.{CanWrite, Written, rowsFrom}
-use Rattle.weighing.proofs.Reporting as reporting
-use Rattle.weighing.proofs.Onward as onward
+use Rattle.listing.specs.Plans.{goesOn}
+use Rattle.listing.specs.Writing.{CanWrite, Written, rowsFrom}
+use Rattle.listing.proofs.Reporting as reporting
+use Rattle.listing.proofs.Onward as onward
 use borrow.Fn.Kinds.{In}
 use borrow.Fn.PlainCycle.{Measures, is, falls, and}
-use Rattle.weighing.proofs.write_from.Reads as write-from
-use Rattle.weighing.proofs.write_from.Kinds as write-from-kinds
-use Rattle.weighing.proofs.+write_from.Lts-write_from as write-from-lts
-use Rattle.weighing.proofs.goes_on.Reads as goes-on-reads
-use Rattle.weighing.proofs.write_here.Reads as write-here-reads
-use Rattle.weighing.proofs.+write_from.{statement}
-use Rattle.weighing.proofs.+write_from.Tie.{close}
+use Rattle.listing.proofs.write_from.Reads as write-from
+use Rattle.listing.proofs.write_from.Kinds as write-from-kinds
+use Rattle.listing.proofs.+write_from.Lts-write_from as write-from-lts
+use Rattle.listing.proofs.goes_on.Reads as goes-on-reads
+use Rattle.listing.proofs.write_here.Reads as write-here-reads
+use Rattle.listing.proofs.+write_from.{statement}
+use Rattle.listing.proofs.+write_from.Tie.{close}
 
 abbrev μ-write-from : Measures 3 write-from-kinds.ps ℕ
 μ-write-from κs a = a .1 .1 .1 .1 .1 .1 .0 .left

@@ -1,8 +1,8 @@
 -- `weighing::put_here` meets its contract. Assumes nothing.
-use Rattle.weighing.proofs.Putting as putting
+use Rattle.listing.proofs.Putting as putting
 use borrow.Author.Needs.{needs}
-use Rattle.weighing.proofs.put_here.Statement.{statement}
-use Rattle.weighing.proofs.put_here.Tie as tie
+use Rattle.listing.proofs.put_here.Statement.{statement}
+use Rattle.listing.proofs.put_here.Tie as tie
 
 put-if-requires : tie.Need-put-if-requires
 put-if-requires c κs = let s = c .before .before in let x = s .args in putting.room-one (x .sheet .now) (x .to) (x .plan) (x .len) (x .code) (x .counts) (s .pre)
