@@ -19,13 +19,13 @@ use chart::chart_of;
 use numbers::DESKS;
 use records::DESK_SPAN;
 use records::table_of;
+use soundness::sound;
 use store::layout::DEPTH;
 use store::layout::HEADER;
 use store::layout::OPEN;
 use store::layout::SYMBOLS;
 use store::layout::USED;
 use store::layout::field_at;
-use store::sound;
 
 // What a length and a code name: the key of a desk's context, or no context over its alphabet.
 enum Named {

@@ -20,6 +20,7 @@ use numbers::DESKS;
 use numbers::FEWEST_SYMBOLS;
 use numbers::MOST_SYMBOLS;
 use recording::remove_desk;
+use soundness::sound;
 use store::layout::DEPTH;
 use store::layout::DESK_SIZE;
 use store::layout::FIRST_DESK;
@@ -30,7 +31,6 @@ use store::layout::ROOM;
 use store::layout::SYMBOLS;
 use store::layout::USED;
 use store::layout::field_at;
-use store::sound;
 
 // How many numbers a desk has in the header.
 const DESK_NUMBERS: usize = 18;

@@ -19,6 +19,7 @@ use entering::six_from;
 use entering::write_feed;
 use numbers::DESKS;
 use numbers::LONGEST;
+use soundness::sound;
 use store::layout::DEPTH;
 use store::layout::DESK_SIZE;
 use store::layout::FIRST_DESK;
@@ -28,7 +29,6 @@ use store::layout::SIZE_FIRST;
 use store::layout::SLOTS;
 use store::layout::SYMBOLS;
 use store::layout::field_at;
-use store::sound;
 
 // One more symbol of a sample at a desk.
 pub fn feed(store: &mut [u32], desk: u32, sample: u32, symbol: u32) -> Verdict

@@ -31,7 +31,7 @@ ghost use Rattle.report.specs.Desk.{deskIn, CanReportOn, WeighedDesk, De
 pub fn report(store: &[u32], desk: u32, sheet: &mut [u32], place: u32) -> ReportAnswer
     ensures { λ r. ⌜ Reports (now (store .entry)) desk place (reportOf r place (now (sheet .exit))) (now (sheet .entry)) (now (sheet .exit)) ⌝ }
 {
-    if !store::sound(store) {
+    if !soundness::sound(store) {
         return ReportAnswer::Refused(Refusal::Unsound);
     }
     let d = desk as usize;

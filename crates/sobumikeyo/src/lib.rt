@@ -60,7 +60,7 @@ pub extern "C" fn sobumikeyo_close(store: &mut [u32], desk: u32) -> u32
 pub extern "C" fn sobumikeyo_sound(store: &[u32]) -> bool
     ensures { λ r. ⌜ r ≡ soundb (now (store .entry)) ⌝ }
 {
-    store::sound(store)
+    soundness::sound(store)
 }
 
 // A run of feeds to one sample: how many were accepted, and in `why` 0 or the refusal that the next feed got.

@@ -5,9 +5,7 @@ pub mod Walking
 pub mod Climbing
 pub mod Desks
 pub mod Whole
-pub mod Loops
 pub mod Parts
-pub mod Turn
 pub mod Passing
 pub mod Standing
 pub mod Converse

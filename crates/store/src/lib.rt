@@ -1,34 +1,13 @@
-// The store: eight desks' sittings in one run of numbers. Its soundness test, and its making.
+// The store: eight desks' sittings in one run of numbers. Its layout, and its making.
 pub mod layout;
-mod soundness;
 
 ghost use mathlib.Core.Path.{_≡_};
 ghost use lib.ListN.{length, replicate};
-ghost use Rattle.store.specs.Sound.{soundb};
 ghost use Rattle.store.specs.Making.{Makes};
 use layout::HEADER;
 use layout::ROOM;
-use layout::USED;
 use numbers::MOST_ROOM;
 use records::WIDTH;
-use soundness::frame_ok;
-use soundness::pass;
-pub use soundness::reserved;
-
-// Whether a lent store stands for sittings.
-pub fn sound(store: &[u32]) -> bool
-    ensures { λ r. ⌜ r ≡ soundb (now (store .entry)) ⌝ }
-{
-    if frame_ok(store) {
-        let many = store[USED] as usize;
-        let room = store[ROOM] as u64;
-        let body = &store[HEADER..];
-        if pass(store, body, many) {
-            return reserved(store) <= room;
-        }
-    }
-    false
-}
 
 // What a making answers. `refusalOf` of specs/Making.antt has document 01's number of each.
 pub enum Made {
