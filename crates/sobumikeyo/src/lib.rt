@@ -3,19 +3,16 @@ ghost use mathlib.Core.Path.{_≡_};
 ghost use Rattle.replay.specs.Machine.{opening, closing, atDesk, asking};
 ghost use Rattle.replay.specs.Room.{naming};
 ghost use Rattle.rules.specs.Rules.{feed};
-ghost use Rattle.store.specs.Making.{refusalOf};
 ghost use Rattle.store.specs.Sound.{soundb};
-ghost use Rattle.calls.specs.Refusals.{outcomeOf, endingOf};
-ghost use Rattle.told.specs.Codes.{codeOf};
 ghost use Rattle.told.specs.Told.{MakeTold, MoveTold, RunTold, RoomTold, ReportTold, ReadTold, ChartTold};
 use calls::ChartAnswer;
-use calls::Ending;
 use calls::ReportAnswer;
 use calls::RoomLeft;
-use calls::Verdict;
 use chart::Chart;
 use sitting_file::Reading;
-use store::Made;
+use told::code_of;
+use told::ending_code;
+use told::making_code;
 
 // Makes a store for `room` contexts of the numbers lent, whatever they are.
 #[no_mangle]
@@ -169,36 +166,5 @@ pub extern "C" fn sobumikeyo_chart(
             }
             0
         }
-    }
-}
-
-// What an opening, a feed or a closing answers, as a number.
-fn code_of(verdict: Verdict) -> u32
-    ensures { λ r. ⌜ r ≡ codeOf (outcomeOf verdict) ⌝ }
-{
-    match verdict {
-        Verdict::Done => 0,
-        Verdict::Refused(why) => calls::number_of(why),
-    }
-}
-
-// What a making answers, as a number.
-fn making_code(made: Made) -> u32
-    ensures { λ r. ⌜ r ≡ refusalOf made ⌝ }
-{
-    match made {
-        Made::Done => 0,
-        Made::RoomOutside => 17,
-        Made::StoreShort => 18,
-    }
-}
-
-// How a run of feeds ended, as a number.
-fn ending_code(ending: Ending) -> u32
-    ensures { λ r. ⌜ r ≡ codeOf (endingOf ending) ⌝ }
-{
-    match ending {
-        Ending::Whole => 0,
-        Ending::Refused(why) => calls::number_of(why),
     }
 }
