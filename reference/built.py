@@ -6,6 +6,7 @@ from pathlib import Path
 from reference import program
 from reference.difference import Difference, demand_equal
 from reference.inputs import damaged_file, drawn_file, fixed_files
+from reference.processor import command
 from reference.replay import CLOSING_QUESTIONS, replay_of
 from reference.script import SCRIPT_BYTES, UNKNOWN, Player, answer_kind, parse
 from reference.walks import drawn_walk, every_length, spoilt_walk
@@ -18,12 +19,12 @@ class Built:
     """A built program: takes one input a run at standard input, prints its answer and ends with 0."""
 
     def __init__(self, path):
-        self.path = path
+        self.command = command(path)
 
     def output(self, given, shown):
         """What it prints; `shown` is the input as a text, for a run that goes wrong."""
         try:
-            run = subprocess.run([self.path], input=given, capture_output=True, timeout=LONGEST_RUN)
+            run = subprocess.run(self.command, input=given, capture_output=True, timeout=LONGEST_RUN)
         except subprocess.TimeoutExpired:
             raise Difference("no end of the run", shown, after=f"{LONGEST_RUN} seconds")
         if run.returncode != 0:

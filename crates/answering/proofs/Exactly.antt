@@ -1,7 +1,7 @@
 -- The program refuses an accepted file by the number of the first line that applies, and by no other. Assumes nothing.
 use Prim.Native.Nat.{ℕ}
 use native.Mathlib.Omega.{arith}
-use mathlib.Core.Path.{_≡_, refl, sym, ap, _∙_}
+use mathlib.Core.Path.{_≡_, sym, ap, _∙_}
 use mathlib.Core.Logic.{_↔_}
 use mathlib.Core.List.{List}
 use lib.ListN.{length}
@@ -14,7 +14,7 @@ use Rattle.sitting_file.specs.declared.Reading.the-variants.{Accepted}
 use Rattle.answering.specs.Judgement.{sittingIn, linesOf, Judged, judged}
 use Rattle.answering.specs.Answers.{answerOf, Answers}
 use Rattle.answering.specs.declared.SittingAnswer.{SittingAnswer}
-use Rattle.answering.specs.declared.SittingAnswer.the-variants.{Reported, Refused}
+use Rattle.answering.specs.declared.SittingAnswer.the-variants.{Refused}
 
 refusal-of : (j : Outcome Judged) (n : ℕ) → answerOf j ≡ Refused n → j ≡ refused n
 unfolding answerOf

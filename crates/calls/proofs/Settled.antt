@@ -8,7 +8,7 @@ use lib.ListN.{length, drop}
 use Rattle.contexts.specs.Sitting.{Progress, sat}
 use Rattle.replay.specs.Room.{Desk, closed, opened, Room}
 use Rattle.replay.specs.Table.{Line, number, applies, Outcome, refused, answered, verdictOf}
-use Rattle.replay.specs.Machine.{Call, atDesk, asking, noSuchDesk, ownLines, askingTable, tableAt, tableOf, answerAt, answerOf, verdict, move, shift, settle}
+use Rattle.replay.specs.Machine.{Call, atDesk, asking, noSuchDesk, askingTable, tableAt, tableOf, answerAt, answerOf, verdict, move, shift, settle}
 use Rattle.store.specs.Layout.{storeSize, room}
 use Rattle.store.specs.Sound.{soundb}
 use Rattle.store.specs.Meaning.{meaning}

@@ -5,7 +5,6 @@ use lib.ListN.{drop}
 use Rattle.replay.specs.Table.{Outcome, refused, answered}
 use Rattle.numbers.specs.Limits.{rowWidth}
 use Rattle.rows.specs.Rows.{readRows}
-use Rattle.rules.specs.Report.{Reported}
 use Rattle.rules.specs.Rules.{Answer, done, room, reported, point}
 use Rattle.calls.specs.declared.Refusal.{Refusal}
 use Rattle.calls.specs.declared.Refusal.the-variants.{Unsound, NoSuchDesk, AlreadyOpen, NotOpen, OutsideLimits, BadReservation, NoRoom, NotOfSitting, SampleFull, PastReservation, SampleEmpty, SheetShort}

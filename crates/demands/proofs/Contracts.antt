@@ -3,20 +3,18 @@ use Prim.Native.Nat.{ℕ}
 use mathlib.Core.Path.{_≡_, refl, sym, ap, fun-ext, _∙_}
 use mathlib.Core.Bool.{Bool, true, false, cond}
 use mathlib.Core.List.{List}
-use lib.ListN.{length}
 use lib.Dec.{eqb}
 use borrow.Author.Tests.{eqb-true}
 use Rattle.contexts.specs.Sitting.{Progress}
 use Rattle.replay.specs.Room.{Making, Opening, Desk, closed, opened, Room}
 use Rattle.replay.specs.Table.{Outcome, refused, answered}
-use Rattle.replay.specs.Machine.{opening, asking, closing, Act, Call, atDesk, roomQuestion, verdict, move, moved, put, shift, settle}
+use Rattle.replay.specs.Machine.{opening, asking, closing, Call, atDesk, roomQuestion, verdict, move, moved, put, shift, settle}
 use Rattle.replay.specs.Real.{Contracts, Made, Runs, stop, then}
 use Rattle.replay.proofs.Refusals.{question-stays}
 use Rattle.store.specs.Sound.{soundb}
 use Rattle.store.specs.Meaning.{meaning}
 use Rattle.rules.specs.Rules.{Answer, Ask, feed, reporting, charting, rules, nextOf}
-use Rattle.calls.specs.Promises.{Moves, Asks, Reports}
-use Rattle.demands.specs.Runs.{OnSheet, OnlyAsked, Does, MadeNew, Run}
+use Rattle.demands.specs.Runs.{Does, MadeNew, Run}
 use Rattle.demands.specs.Runs as trace
 
 -- ---- a question changes nothing

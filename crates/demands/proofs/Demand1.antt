@@ -16,7 +16,7 @@ use Rattle.store.specs.Sound.{soundb}
 use Rattle.store.specs.Meaning.{meaning}
 use Rattle.rules.specs.Rules.{Answer, done, feed, reporting, charting, rules}
 use Rattle.rules.proofs.Numbers.{lines-rise}
-use Rattle.demands.specs.Runs.{OnSheet, Does}
+use Rattle.demands.specs.Runs.{Does}
 use Rattle.demands.specs.Demands.{tableOn, Demand1, Demand1Sheet, makingTable, makingOf, Demand1Making}
 use Rattle.demands.proofs.Contracts.{answers}
 

@@ -4,14 +4,13 @@ use native.Mathlib.Omega.{arith}
 use mathlib.Core.Path.{_≡_, refl, sym, ap, subst, _∙_}
 use mathlib.Core.List.{List, [], _∷_, _++_}
 use lib.ListN.{length}
-use Rattle.contexts.specs.Sitting.{Sample, first, Progress, sat}
-use Rattle.estimate.specs.Trees.{own}
-use Rattle.replay.specs.Room.{Making, Opening, Desk, closed, opened}
+use Rattle.contexts.specs.Sitting.{Sample, Progress, sat}
+use Rattle.replay.specs.Room.{Making, Desk, closed, opened}
 use Rattle.replay.specs.Table.{Outcome, answered}
 use Rattle.replay.specs.Machine.{asking, Call, atDesk, answerAt, verdict}
 use Rattle.replay.specs.Real.{Made, Runs}
 use Rattle.replay.specs.Alone.{asks}
-use Rattle.replay.specs.Serial.{Told, struck, sittings}
+use Rattle.replay.specs.Serial.{struck, sittings}
 use Rattle.replay.proofs.Swap.{heard}
 use Rattle.replay.proofs.Reached.{alone-begun}
 use Rattle.replay.proofs.RealRuns.{runs-sound, real-open}

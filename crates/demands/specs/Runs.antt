@@ -1,10 +1,9 @@
 -- Runs of the real functions: each step is what that function's own promise allows, over the numbers before and after. Assumes nothing.
 use Prim.Native.Nat.{ℕ}
 use mathlib.Core.Path.{_≡_}
-use mathlib.Core.Bool.{true}
 use mathlib.Core.List.{List, [], _∷_}
 use lib.ListN.{length}
-use Rattle.replay.specs.Room.{Making, Opening}
+use Rattle.replay.specs.Room.{Making}
 use Rattle.replay.specs.Table.{Outcome}
 use Rattle.replay.specs.Machine.{opening, asking, closing, Call, atDesk, roomQuestion}
 use Rattle.store.specs.Making.{Makes}

@@ -8,8 +8,7 @@ use mathlib.Core.Bool.{Bool, true, false, cond, _&&_}
 use mathlib.Core.List.{List}
 use borrow.Author.Tests.{eqb-true, eqb-false, eq-eqb, le-ltb}
 use lib.Dec.{T, eqb, ltb}
-use lib.ListN.{length, drop, getD}
-use lib.Seq.{ext-getD, getD-take, getD-drop}
+use lib.ListN.{length, getD}
 use Rattle.numbers.specs.Limits.{mostSymbols, deepest, desks}
 use Rattle.numbers.specs.Sum.{sum}
 use Rattle.numbers.proofs.Tests.{T?, of-true}
@@ -25,17 +24,17 @@ use Rattle.records.proofs.Keeping.{lookup-keep}
 use Rattle.replay.specs.Room.{Desk, Room, reserved, reservations}
 use Rattle.replay.specs.Machine.{put}
 use Rattle.replay.proofs.Desks.{put-sum}
-use Rattle.store.specs.Layout.{headerSize, deskStart, recentField, room, field, isOpen, sizeAt, slotsAt, recordsIn, totalOf}
+use Rattle.store.specs.Layout.{headerSize, deskStart, room, field, isOpen, recordsIn, totalOf}
 use Rattle.store.specs.Sound.{deskOk, heldBy, reservedAt, keyOk, sampleOk, tableOk, parentKey, parentOk, recordOk, soundb}
 use Rattle.store.specs.Meaning.{deskAt, meaning}
 use Rattle.store.proofs.Many.{sample-cong}
 use Rattle.store.proofs.Desks.{desk-stands, stands-desk, desk-shut}
 use Rattle.store.proofs.Climbing.{key-stands}
 use Rattle.store.proofs.Passing.{record-key}
-use Rattle.store.proofs.Standing.{slots-long}
-use Rattle.store.proofs.Local.{SameDesk, desk-stays}
+use Rattle.store.proofs.Fitting.{desk-reserved, reserved-means}
+use Rattle.store.proofs.Local.{SameDesk, same-size, same-slots, desk-stays}
 use Rattle.desks.specs.Changes.{deskNumbers, Beside}
-use Rattle.desks.proofs.Reserving.{header-long, desk-reserved, reservations-are}
+use Rattle.desks.proofs.Reserving.{header-long}
 
 -- a sound store s and one that has all but desk d's numbers and records
 pub record Apart (s t : List ℕ) (d : ℕ) : Type 0 where
@@ -89,26 +88,9 @@ module _ (s t : List ℕ) (d : ℕ) (x : Apart s t d) where
   reserves-with v q l h =
       let after : reservations (meaning t) ≡ reservations (with v) = ap reservations q in
       let sums = put-sum reserved desks (deskAt s) d v l in
-      omega (arith, x .beside .room-same, reservations-are s, reservations-are t, desk-reserved s d l)
+      omega (arith, x .beside .room-same, reserved-means s, reserved-means t, desk-reserved s d l)
 
   -- ---- another desk's test
-
-  slots-same : (e : ℕ) → e ≢ d → e < desks → (i : Sample) → slotsAt t e i ≡ slotsAt s e i
-  slots-same e n l i =
-      let long = slots-long t e i l header-after in
-      ext-getD 0 (slotsAt t e i) (slotsAt s e i) (long ∙ sym (slots-long s e i l (header-long s (x .sound))))
-      (λ j h. at t i j (omega arith) ∙ same i j (omega arith) ∙ sym (at s i j (omega arith)))
-    where
-      at : (u : List ℕ) (i : Sample) (j : ℕ) → j < deepest → getD (slotsAt u e i) j 0 ≡ getD u (deskStart e + recentField i + j) 0
-      at u i j h = getD-take deepest (drop (deskStart e + recentField i) u) j 0 h ∙ getD-drop (deskStart e + recentField i) u j 0
-
-      same : (i : Sample) (j : ℕ) → j < deepest → getD t (deskStart e + recentField i + j) 0 ≡ getD s (deskStart e + recentField i + j) 0
-      same first j h =
-          let q : deskStart e + 6 + j ≡ deskStart e + (6 + j) = omega arith in
-          rw q (x .beside .others e (6 + j) n l (omega arith))
-      same second j h =
-          let q : deskStart e + 12 + j ≡ deskStart e + (12 + j) = omega arith in
-          rw q (x .beside .others e (12 + j) n l (omega arith))
 
   pub other-desk : (e : ℕ) → e ≢ d → e < desks → T (deskOk s (recordsIn s) e) → T (deskOk t (recordsIn t) e)
   other-desk e n l test = elim (T? (isOpen t e)) [
@@ -119,19 +101,15 @@ module _ (s t : List ℕ) (d : ℕ) (x : Apart s t d) where
           most = omega (arith, g .most, same 1 (omega arith));
           depth = omega (arith, g .depth, same 2 (omega arith));
           some = omega (arith, g .some, same 3 (omega arith));
-          sizes = λ i. rw (size-same i) (g .sizes i);
+          sizes = λ i. rw (sym (same-size s t e (same-desk e n l) i)) (g .sizes i);
           within = omega (arith, g .within, same 3 (omega arith), ap length (x .kept e n));
-          slots = λ i. rw (same 1 (omega arith), slots-same e n l i) (g .slots i);
+          slots = λ i. rw (same 1 (omega arith), sym (same-slots s t e (same-desk e n l) l i)) (g .slots i);
         })
     | no q ↦ of-true _ (desk-shut t e (heldBy e (recordsIn t)) q)
   ]
     where
       same : (f : ℕ) → f < deskNumbers → getD t (deskStart e + f) 0 ≡ getD s (deskStart e + f) 0
       same f m = x .beside .others e f n l m
-
-      size-same : (i : Sample) → sizeAt t e i ≡ sizeAt s e i
-      size-same first = same 4 (omega arith)
-      size-same second = same 5 (omega arith)
 
   -- ---- another desk's record
 

@@ -15,7 +15,7 @@ use Rattle.numbers.proofs.Orders.{less, same, more, order}
 use Rattle.numbers.proofs.Every.{every-at, every-of, all-at, all-of}
 use Rattle.contexts.specs.Keys.{deskOf}
 use Rattle.records.specs.Records.{key, keys, rises}
-use Rattle.records.specs.Held.{without, keep, ofDesk}
+use Rattle.records.specs.Held.{keep, ofDesk}
 use Rattle.recording.proofs.Desks.{rising-without, length-without, other-without}
 use Rattle.records.proofs.Keeping.{keep-all}
 use Rattle.replay.specs.Room.{closed, reserved}

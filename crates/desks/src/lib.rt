@@ -20,6 +20,7 @@ use numbers::DESKS;
 use numbers::FEWEST_SYMBOLS;
 use numbers::MOST_SYMBOLS;
 use recording::remove_desk;
+use soundness::reserved;
 use soundness::sound;
 use store::layout::DEPTH;
 use store::layout::DESK_SIZE;
@@ -125,24 +126,7 @@ fn left_in(store: &[u32]) -> u32
     requires { ⌜ soundb (now store) ≡ true ⌝ }
     ensures { λ r. ⌜ r ≡ left (meaning (now (store .entry))) ⌝ }
 {
-    let mut room = store[ROOM];
-    let mut desk: usize = 0;
-    while desk < DESKS {
-        room = room - reserved_at(store, desk);
-        desk = desk + 1;
-    }
-    room
-}
-
-// What a desk has reserved.
-fn reserved_at(store: &[u32], desk: usize) -> u32
-    requires { ⌜ (headerSize ≤ length (now store)) × (desk < desks) ⌝ }
-    ensures { λ r. ⌜ r ≡ reservedAt (now (store .entry)) desk ⌝ }
-{
-    if field_at(store, desk, OPEN) == 1 {
-        return field_at(store, desk, RESERVE);
-    }
-    0
+    (store[ROOM] as u64 - reserved(store)) as u32
 }
 
 // Writes the numbers of a desk that opens.

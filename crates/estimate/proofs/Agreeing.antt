@@ -4,7 +4,6 @@ use mathlib.Core.Path.{_≡_, refl, sym, ap, ap₂, fun-ext, _∙_}
 use mathlib.Core.Bool.{Bool, cond, _&&_}
 use mathlib.Core.List.{List, [], _∷_}
 use lib.Dec.{T, leb, ltb}
-use lib.IntN.{ℤ}
 use Rattle.numbers.specs.Sum.{sum}
 use Rattle.numbers.proofs.Orders.{Leb, le, gt, lebView}
 use Rattle.numbers.proofs.Sums.{sum-cong}
@@ -13,8 +12,8 @@ use Rattle.contexts.specs.Strings.{under}
 use Rattle.contexts.specs.Sitting.{Sample, first, second, Sitting}
 use Rattle.contexts.proofs.Strings.{context-cons}
 use Rattle.estimate.specs.Trees.{Contexts, Kind, shared, own, Triple, sharedLeaf, separateTrees, root, below}
-use Rattle.estimate.specs.Score.{ofKind, counts, sizeOf, cost, worths, score}
-use Rattle.estimate.specs.Recursion.{Losses, spread, losses, best, separate, joint, split, splitBoth, tree, estimate, estimateOf}
+use Rattle.estimate.specs.Score.{counts, cost, worths, score}
+use Rattle.estimate.specs.Recursion.{Losses, losses, best, separate, joint, split, splitBoth, tree, estimate, estimateOf}
 use Rattle.estimate.proofs.Integers.{minus}
 use Rattle.estimate.proofs.Spreads.{spread-cong}
 use Rattle.estimate.proofs.Tables.{kind-cong}

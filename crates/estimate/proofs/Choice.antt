@@ -1,9 +1,9 @@
 -- What the estimate chooses at its root, and that it is admissible and loses what the recursion says. Assumes nothing.
-use Prim.Native.Nat.{ℕ, zero, suc, _+_, min, _≤_, _<_}
+use Prim.Native.Nat.{ℕ, zero, suc, min, _≤_, _<_}
 use native.Mathlib.Omega.{arith}
 use mathlib.Core.Path.{_≡_, refl, _∙_}
 use mathlib.Core.Bool.{Bool, true, false, cond, _&&_}
-use mathlib.Core.List.{List, [], _∷_}
+use mathlib.Core.List.{List, []}
 use lib.Dec.{T, leb, ltb, lt→ltb}
 use Rattle.numbers.specs.Sum.{sum}
 use Rattle.numbers.proofs.Orders.{Leb, le, gt, lebView}

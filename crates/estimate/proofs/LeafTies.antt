@@ -14,7 +14,7 @@ use Rattle.numbers.proofs.Sums.{sum-tight}
 use Rattle.contexts.specs.Context.{isContext}
 use Rattle.contexts.specs.Strings.{under, total}
 use Rattle.contexts.proofs.Strings.{newest-below, older-context, context-cons}
-use Rattle.contexts.proofs.Totalling.{total-root, total-only}
+use Rattle.contexts.proofs.Totalling.{total-only}
 use Rattle.estimate.specs.Trees.{Contexts, In, Complete, root}
 use Rattle.estimate.specs.Ties.{LeafRule, GoesTo}
 use Rattle.estimate.specs.Recursion.{best, split, tree}

@@ -3,7 +3,6 @@
 use Prim.Native.Nat.{ℕ, _<_}
 use native.Mathlib.Omega.{arith}
 use mathlib.Core.Path.{_≡_, sym, subst, ap, _∙_}
-use lib.IntN.{ℤ}
 use Rattle.contexts.specs.Sitting.{Sitting}
 use Rattle.estimate.specs.Trees.{Triple}
 use Rattle.estimate.specs.Score.{Worths, worths, score, Best}

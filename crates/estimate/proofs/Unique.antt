@@ -4,7 +4,6 @@ use native.Mathlib.Omega.{arith}
 use mathlib.Core.Path.{_≡_, sym, ap, subst, fun-ext}
 use mathlib.Core.Logic.{⊎-elim}
 use mathlib.Core.List.{List, [], _∷_, _++_}
-use lib.Dec.{T}
 use lib.Signed.{_≤ℤ_}
 use Rattle.numbers.proofs.Tests.{is-false, or-left, or-right, or-rest}
 use Rattle.numbers.proofs.Sums.{sum-tight}
@@ -13,7 +12,7 @@ use Rattle.contexts.specs.Strings.{total}
 use Rattle.contexts.specs.Sitting.{Sample, first, second, Sitting}
 use Rattle.contexts.proofs.Strings.{newest-below, context-cons}
 use Rattle.contexts.proofs.Totalling.{total-root}
-use Rattle.estimate.specs.Trees.{Contexts, In, Kind, shared, own, Triple, treeOf, Admissible, sharedLeaf, separateTrees, below}
+use Rattle.estimate.specs.Trees.{In, Kind, shared, own, Triple, Admissible, sharedLeaf, separateTrees, below}
 use Rattle.estimate.specs.Score.{Worths, worths, score, Best}
 use Rattle.estimate.specs.Ties.{NothingShared, JointRule, SplitTo, GoesTo, KeepsTies}
 use Rattle.estimate.specs.Recursion.{Losses, losses, best, separate, joint, tree, splitBoth, estimate, estimateOf}

@@ -1,7 +1,7 @@
 -- The trees and triples that the recursion chooses among are complete, and admissible. Assumes nothing.
 use Prim.Native.Nat.{ℕ, zero, suc, _<_}
 use mathlib.Core.Path.{_≡_, refl, sym, subst, fun-ext}
-use mathlib.Core.Bool.{Bool, true, false, cond, _&&_, and-or-distrib-left}
+use mathlib.Core.Bool.{and-or-distrib-left}
 use mathlib.Core.List.{List, [], _∷_, _++_}
 use lib.Dec.{T, leb, ltb, ltb→lt, lt→ltb}
 use Rattle.numbers.proofs.Tests.{both, left, right, choose}
@@ -9,7 +9,7 @@ use Rattle.contexts.specs.Context.{isContext}
 use Rattle.contexts.specs.Strings.{under}
 use Rattle.contexts.specs.Sitting.{Sample}
 use Rattle.estimate.specs.Trees.{Contexts, In, Complete, shared, own, Triple, treeOf, Admissible, root, sharedLeaf, separateTrees}
-use Rattle.estimate.specs.Recursion.{best, split, tree, splitBoth}
+use Rattle.estimate.specs.Recursion.{split, tree, splitBoth}
 
 -- ---- complete trees
 

@@ -8,7 +8,7 @@ use Rattle.numbers.specs.Sum.{sum}
 use Rattle.contexts.specs.Strings.{under}
 use Rattle.contexts.specs.Sitting.{first, second, Sitting}
 use Rattle.estimate.specs.Trees.{Contexts, Kind, shared, own, Triple, root, sharedLeaf, separateTrees, below}
-use Rattle.estimate.specs.Score.{ofKind, counts, sizeOf, weights, whole, cost}
+use Rattle.estimate.specs.Score.{counts, sizeOf, weights, whole, cost}
 
 -- what each context would lose as a member of each kind
 abbrev pub Losses : Type 0

@@ -13,8 +13,8 @@ ghost use Rattle.weighing.specs.Visit.{Small};
 use estimate::ByKind;
 use numbers::ROW_WIDTH;
 use records::DESK_SPAN;
+use records::stands;
 use weighing::Desk;
-use weighing::held_at;
 use weighing::leaf_mark;
 
 // Writes the rows of a desk's report at the beginning of the sheet, by the decisions that `weigh` kept beside the records.
@@ -160,7 +160,7 @@ fn mark_of(numbers: &[u32], n: usize, kept: &[u8], costs: ByKind, key: u32) -> u
     ensures { λ r. ⌜ r ≡ keptMark n (now (numbers .entry)) (now (kept .entry)) costs key ⌝ }
 {
     let at = records::place_of(numbers, n, key);
-    if held_at(numbers, n, at, key) {
+    if stands(numbers, n, at, key) {
         return kept[at];
     }
     leaf_mark(costs)

@@ -7,8 +7,8 @@ use native.Mathlib.Nat.{add-zero, zero-add, add-suc, suc-add, le-of-suc-le-suc, 
 use lib.Dec.{T, eqb, leb, ltb, eqb→eq, leb→le, ltb→lt}
 use lib.ListN.{length, getD}
 use Rattle.numbers.proofs.Tests.{left, right}
-use Rattle.logarithm.specs.Logarithm.{IsLog, L}
-use Rattle.logarithm.specs.Table.{every, between, isRight, AllRight}
+use Rattle.logarithm.specs.Logarithm.{L}
+use Rattle.logarithm.specs.Table.{every, isRight, AllRight}
 use Rattle.logarithm.proofs.Laws.{L-only, L-zero}
 
 from : (f : ℕ → ℕ → Bool) (xs : List ℕ) (i : ℕ) → T (every f i xs) → (k : ℕ) → k < length xs → T (f (i + k) (getD xs k 0))

@@ -1,5 +1,5 @@
 -- The sum of c·L(c) over counts c is at most t·L(t), where t is their sum: no fit of document 01 is above 0. Assumes nothing.
-use Prim.Native.Nat.{ℕ, zero, suc, _+_, _*_, _≤_, _<_}
+use Prim.Native.Nat.{ℕ, zero, suc, _*_, _≤_, _<_}
 use native.Mathlib.Nat.{le-refl, le-suc, le-trans, mul-le-mul-left}
 use native.Mathlib.Omega.{arith}
 use Rattle.numbers.specs.Sum.{sum}

@@ -9,7 +9,6 @@ use borrow.Author.Tests.{le-ltb}
 use lib.ListN.{length, take, drop, getD, length-take, length-drop, length-set}
 use lib.Seq.{length-take-le}
 use Rattle.numbers.specs.Limits.{mostSymbols, deepest, longest}
-use Rattle.numbers.specs.Sum.{one}
 use Rattle.contexts.specs.Keys.{keyOf}
 use Rattle.contexts.specs.Sitting.{sampleOf}
 use Rattle.contexts.proofs.KeyOrder.{Within}
@@ -17,7 +16,7 @@ use Rattle.contexts.proofs.Followed.{context-take}
 use Rattle.records.specs.Records.{width, records, keys, lookup}
 use Rattle.records.specs.Held.{rank, held, Rising}
 use Rattle.records.specs.Bumped.{cellOf, raised, Cell, Written}
-use Rattle.records.specs.Fed.{fedTo, fed, fresh, missing}
+use Rattle.records.specs.Fed.{fedTo, fed, fresh}
 use Rattle.records.specs.Located.{Ready, Insertable, Inserted}
 use Rattle.records.proofs.Lent.{agree-later}
 use Rattle.records.proofs.Rising.{rank-within}

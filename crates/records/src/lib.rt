@@ -134,7 +134,7 @@ fn halve(numbers: &[u32], n: usize, bounds: Bounds, key: u32) -> usize
 }
 
 // Whether the record at a key's place has it.
-fn stands(numbers: &[u32], n: usize, at: usize, key: u32) -> bool
+pub fn stands(numbers: &[u32], n: usize, at: usize, key: u32) -> bool
     requires { ⌜ Standing n (now numbers) × Placed key n at (now numbers) ⌝ }
     ensures { λ r. ⌜ r ≡ held key (records n (now (numbers .entry))) ⌝ }
 {

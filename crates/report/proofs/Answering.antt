@@ -4,22 +4,21 @@ use mathlib.Core.Path.{_≡_, sym, ap, ap₂, subst, _∙_}
 use mathlib.Core.List.{List}
 use lib.ListN.{length, drop}
 use lib.IntN.{ℤ, pos, negℤ}
-use Rattle.contexts.specs.Sitting.{first, second, sat}
-use Rattle.estimate.specs.Score.{score, worths}
-use Rattle.estimate.specs.Recursion.{estimateOf}
+use Rattle.contexts.specs.Sitting.{first, second}
+use Rattle.estimate.specs.Score.{score}
 use Rattle.estimate.proofs.Integers.{minus}
 use Rattle.estimate.proofs.Optimal.{score-estimate}
 use Rattle.numbers.specs.Limits.{rowWidth}
 use Rattle.rows.specs.Rows.{Row, reportOf, readRows}
 use Rattle.replay.specs.Room.{opened}
-use Rattle.replay.specs.Table.{Outcome, refused, answered}
+use Rattle.replay.specs.Table.{refused, answered}
 use Rattle.store.specs.Layout.{sizeAt}
 use Rattle.store.specs.Meaning.{openingAt, progressAt, sittingAt, meaning}
 use Rattle.store.proofs.Fitting.{desk-opened}
 use Rattle.weighing.specs.declared.Desk.{Desk}
 use Rattle.weighing.specs.declared.Least.{Least}
 use Rattle.rules.specs.Report.{Reported, report}
-use Rattle.rules.specs.Rules.{Answer, reported}
+use Rattle.rules.specs.Rules.{reported}
 use Rattle.calls.specs.Promises.{withRows, Reports}
 use Rattle.report.specs.Desk.{CanReportOn, WeighedDesk}
 use Rattle.report.proofs.Judging.{sheet-short, rows-told, reports-refused, reports-rows, rows-back}

@@ -1,30 +1,24 @@
 -- What the table says of a report, for each way through the function, and how the sheet keeps the promise. Assumes nothing.
 use Prim.Native.Nat.{ℕ, _+_, _*_, _/_, _≤_, _<_}
 use native.Mathlib.Omega.{arith}
-use mathlib.Core.Path.{_≡_, refl, sym, ap, ap₂, subst, _∙_}
-use mathlib.Core.Bool.{Bool, true, false, cond, _||_}
-use mathlib.Core.List.{List, [], _∷_, _++_, append-assoc}
+use mathlib.Core.Path.{_≡_, refl, ap, subst, _∙_}
+use mathlib.Core.Bool.{true, false}
+use mathlib.Core.List.{List, [], _∷_, _++_}
 use lib.ListN.{length, take, drop, length-append}
 use lib.Seq.{drop-at, drop-drop, length-take-le}
-use lib.Dec.{T, eqb, ltb}
-use lib.IntN.{ℤ}
 use borrow.Author.Tests.{eq-eqb, ne-eqb, lt-ltb, le-ltb, le-leb, lt-leb}
-use Rattle.numbers.specs.Limits.{mostSymbols, deepest, desks, rowWidth}
+use Rattle.numbers.specs.Limits.{desks, rowWidth}
 use Rattle.contexts.specs.Sitting.{first, second, Progress, sat}
-use Rattle.estimate.specs.Score.{score, worths}
-use Rattle.estimate.specs.Recursion.{losses, joint, estimateOf}
-use Rattle.estimate.proofs.Integers.{minus}
-use Rattle.estimate.proofs.Optimal.{score-estimate}
 use Rattle.rows.specs.Rows.{Row, numbersOf, reportOf, sheetOf, readRows}
 use Rattle.rows.proofs.Written.{AllFit, read-all}
-use Rattle.replay.specs.Room.{Opening, Desk, closed, opened, Room}
-use Rattle.replay.specs.Table.{Outcome, refused, answered, verdictOf}
+use Rattle.replay.specs.Room.{Opening, closed, opened, Room}
+use Rattle.replay.specs.Table.{refused, answered, verdictOf}
 use Rattle.replay.specs.Machine.{asking, Call, atDesk, ownLines, askingTable, tableAt, tableOf, answerAt, answerOf, verdict}
 use Rattle.store.specs.Sound.{soundb}
 use Rattle.store.specs.Meaning.{meaning}
-use Rattle.rules.specs.Report.{Reported, report, someEmpty, doesNotFit}
+use Rattle.rules.specs.Report.{Reported, report}
 use Rattle.rules.specs.Rules as sitting
-use Rattle.rules.specs.Rules.{Answer, reporting, reported, rules}
+use Rattle.rules.specs.Rules.{reporting, reported, rules}
 use Rattle.calls.specs.Promises.{Asks, withRows, Reports}
 use Rattle.calls.proofs.Settled.{asks-unsound, asks-answered}
 

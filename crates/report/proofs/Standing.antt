@@ -1,18 +1,17 @@
 -- An open desk of a sound store can be weighed, and what is weighed is its sitting. Assumes nothing.
-use Prim.Native.Nat.{ℕ, _+_, _*_, _≤_, _<_}
+use Prim.Native.Nat.{ℕ, _+_, _≤_, _<_}
 use native.Mathlib.Omega.{arith}
 use mathlib.Core.Path.{_≡_, refl, sym, ap, subst, fun-ext, _∙_}
-use mathlib.Core.Bool.{Bool, true, false, cond}
+use mathlib.Core.Bool.{Bool, true, false}
 use mathlib.Core.List.{List, [], _∷_, _++_}
 use lib.ListN.{length, drop, getD, length-drop, length-map}
 use lib.Dec.{T, eqb, eqb-refl}
-use Rattle.numbers.specs.Limits.{mostSymbols, deepest, longest, mostCounted, desks, mostRoom}
-use Rattle.numbers.specs.Sum.{sum}
+use Rattle.numbers.specs.Limits.{mostSymbols, deepest, mostRoom}
 use Rattle.numbers.proofs.Tests.{both}
 use Rattle.numbers.proofs.Orders.{Order, less, same, more, order}
 use Rattle.contexts.specs.Context.{isContext, begins}
 use Rattle.contexts.specs.Keys.{keyOf, deskOf}
-use Rattle.contexts.specs.Sitting.{Sample, first, second, Sitting, totalIn}
+use Rattle.contexts.specs.Sitting.{Sample, first, second, Sitting}
 use Rattle.contexts.specs.Strings.{strings}
 use Rattle.contexts.proofs.Strings.{context-more}
 use Rattle.contexts.proofs.KeyOrder.{deskOf-key}
@@ -26,16 +25,16 @@ use Rattle.rows.specs.Rows.{rowOf, reportOf}
 use Rattle.rows.specs.Members.{members}
 use Rattle.rows.specs.Walk.{older}
 use Rattle.rows.proofs.Scoring.{members-limit}
-use Rattle.records.specs.Records.{width, records, key, keys, lookup}
+use Rattle.records.specs.Records.{records, lookup}
 use Rattle.records.specs.Held.{held, Standing}
-use Rattle.records.proofs.Finding.{Place, held-place, lookup-place, lookup-absent}
+use Rattle.records.proofs.Finding.{held-place, lookup-place, lookup-absent}
 use Rattle.records.proofs.Counting.{total-blank}
 use Rattle.store.specs.Layout.{headerSize, used, symbolsAt, depthAt, sizeAt, recordsIn, totalOf}
 use Rattle.store.specs.Sound.{soundb}
-use Rattle.store.specs.Plain.{Open, Counts, Sound, totalAt}
-use Rattle.store.specs.Meaning.{openingAt, progressAt, sittingAt, deskAt, meaning, SittingFits, Fits}
+use Rattle.store.specs.Plain.{Open, Sound, totalAt}
+use Rattle.store.specs.Meaning.{openingAt, progressAt, sittingAt, meaning, SittingFits}
 use Rattle.store.proofs.Parts.{records-length}
-use Rattle.store.proofs.Passing.{Passed, passed}
+use Rattle.store.proofs.Passing.{passed}
 use Rattle.store.proofs.Standing.{sound-stands}
 use Rattle.store.proofs.Fitting.{desk-opened, meaning-fits}
 use Rattle.weighing.specs.Sitting.{sizes, sittingIn, Weighable}

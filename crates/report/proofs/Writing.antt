@@ -4,13 +4,12 @@ use native.Mathlib.Omega.{arith}
 use mathlib.Core.Path.{_≡_, sym, ap, subst, _∙_}
 use mathlib.Core.List.{List, _++_}
 use lib.ListN.{length, take, drop, length-drop}
-use Rattle.contexts.specs.Sitting.{Sitting}
 use Rattle.estimate.specs.Recursion.{estimateOf}
 use Rattle.numbers.specs.Limits.{rowWidth}
 use Rattle.rows.specs.Rows.{Row, reportOf, sheetOf}
 use Rattle.rows.proofs.Written.{AllFit, rows-fit}
 use Rattle.records.specs.Records.{records}
-use Rattle.records.proofs.Lent.{tail-lent, tail-back}
+use Rattle.records.proofs.Lent.{tail-back}
 use Rattle.store.specs.Layout.{headerSize, used, recordsIn}
 use Rattle.store.specs.Meaning.{sittingAt}
 use Rattle.weighing.specs.Sitting.{sittingIn, Weighable}
@@ -18,7 +17,7 @@ use Rattle.weighing.specs.Weighs.{Decided}
 use Rattle.listing.specs.Writing.{CanReport, Reports}
 use Rattle.weighing.specs.declared.Desk.{Desk}
 use Rattle.calls.specs.Promises.{withRows}
-use Rattle.report.specs.Desk.{deskIn, CanReportOn, DecidedDesk}
+use Rattle.report.specs.Desk.{CanReportOn, DecidedDesk}
 use Rattle.report.proofs.Standing.{fits, sitting-is, weighable}
 use Rattle.report.proofs.Judging.{sheet-length, rows-from}
 

@@ -10,7 +10,7 @@ use Rattle.contexts.specs.Context.{precedes}
 use Rattle.contexts.specs.Sitting.{first, second}
 use Rattle.contexts.proofs.RowOrder.{precedes-less, precedes-older, precedes-asym}
 use Rattle.estimate.specs.Trees.{Kind, shared, own, Triple, below}
-use Rattle.rows.specs.Members.{Member, member, number, Before, Increasing, push, gather, onlyIf, here, members}
+use Rattle.rows.specs.Members.{Member, member, Before, Increasing, push, gather, onlyIf, here, members}
 use Rattle.rows.proofs.Holding.{of-gather, of-only, of-here}
 
 -- one symbol more recent on both sides keeps the order

@@ -5,7 +5,7 @@ use mathlib.Core.Path.{_≡_, refl, sym, ap, ap₂, fun-ext, _∙_}
 use mathlib.Core.Bool.{Bool, true, false}
 use mathlib.Core.List.{List, [], _∷_, _++_, map, append-nil, append-assoc, map-append}
 use Rattle.contexts.specs.Sitting.{first, second}
-use Rattle.estimate.specs.Trees.{Kind, shared, own, Triple, root, below, from}
+use Rattle.estimate.specs.Trees.{Kind, shared, own, Triple, below}
 use Rattle.rows.specs.Members.{Member, member, push, gather, onlyIf, here, members}
 use Rattle.rows.specs.Walk.{older}
 

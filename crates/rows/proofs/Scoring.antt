@@ -6,14 +6,14 @@ use mathlib.Core.Path.{_≡_, refl, sym, ap, ap₂, _∙_}
 use mathlib.Core.Bool.{Bool, true, false, cond}
 use mathlib.Core.List.{List, [], _∷_, _++_, map}
 use lib.ListN.{length}
-use lib.IntN.{ℤ, pos, _+ℤ_}
+use lib.IntN.{_+ℤ_}
 use Rattle.numbers.specs.Limits.{mostSymbols, deepest}
 use Rattle.numbers.specs.Sum.{sum}
 use Rattle.numbers.proofs.Sums.{sum-cong}
 use Rattle.contexts.specs.Strings.{total, strings}
 use Rattle.contexts.specs.Sitting.{first, second, Sitting}
 use Rattle.contexts.proofs.Totalling.{total-mono, total-same, strings-mono}
-use Rattle.estimate.specs.Trees.{Kind, shared, own, Triple, below}
+use Rattle.estimate.specs.Trees.{shared, own, Triple, below}
 use Rattle.estimate.specs.Score.{Worths, worths, score}
 use Rattle.estimate.specs.Recursion.{Losses, losses}
 use Rattle.estimate.proofs.Integers.{minus, minus-add}

@@ -7,7 +7,7 @@ use lib.ListN.{length, set, take, drop}
 use lib.Seq.{paste, length-paste, take-at, drop-at}
 use lib.Dec.{T}
 use Rattle.numbers.specs.Limits.{mostSymbols, deepest, rowWidth}
-use Rattle.contexts.specs.Context.{isContext, codeOf, decoded}
+use Rattle.contexts.specs.Context.{isContext}
 use Rattle.contexts.specs.Sitting.{first, second, Sitting, eight}
 use Rattle.contexts.proofs.Strings.{context-more}
 use Rattle.contexts.proofs.Codes.{decoded-code}

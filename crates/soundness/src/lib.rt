@@ -348,7 +348,7 @@ fn all_below(part: &[u32], a: u32) -> bool
 }
 
 // What the open desks have reserved.
-fn reserved(store: &[u32]) -> u64
+pub fn reserved(store: &[u32]) -> u64
     requires { ⌜ headerSize ≤ length (now store) ⌝ }
     ensures { λ r. ⌜ r ≡ sum desks (reservedAt (now (store .entry))) ⌝ }
 {

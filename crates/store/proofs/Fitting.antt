@@ -83,7 +83,7 @@ module _ (s : List ℕ) (h : Passed s) (d : ℕ) (o : Open s d) where
   }
 
 -- a desk's reservation
-desk-reserved : (s : List ℕ) (d : ℕ) → d < desks → reserved (deskAt s d) ≡ reservedAt s d
+pub desk-reserved : (s : List ℕ) (d : ℕ) → d < desks → reserved (deskAt s d) ≡ reservedAt s d
 unfolding reserved
 desk-reserved s d l = rw (lt-ltb d desks l) (go (isOpen s d))
   where

@@ -36,7 +36,7 @@ pub record SameDesk (s t : List ℕ) (d : ℕ) : Type 0 where
   pub kept : keep (ofDesk d) (recordsIn s) ≡ keep (ofDesk d) (recordsIn t)
 
 module _ (s t : List ℕ) (d : ℕ) (e : SameDesk s t d) where
-  same-size : (i : Sample) → sizeAt s d i ≡ sizeAt t d i
+  pub same-size : (i : Sample) → sizeAt s d i ≡ sizeAt t d i
   same-size first = e .fields 4 (omega arith)
   same-size second = e .fields 5 (omega arith)
 
@@ -48,7 +48,7 @@ module _ (s t : List ℕ) (d : ℕ) (e : SameDesk s t d) where
       let q : deskStart d + 12 + j ≡ deskStart d + (12 + j) = omega arith in
       rw q (e .fields (12 + j) (omega arith))
 
-  same-slots : d < desks → (i : Sample) → slotsAt s d i ≡ slotsAt t d i
+  pub same-slots : d < desks → (i : Sample) → slotsAt s d i ≡ slotsAt t d i
   same-slots l i =
       let m = slots-long s d i l (e .long-before) in
       ext-getD 0 (slotsAt s d i) (slotsAt t d i) (m ∙ sym (slots-long t d i l (e .long-after)))

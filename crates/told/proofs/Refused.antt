@@ -7,7 +7,7 @@ use lib.IntN.{ℤ}
 use lib.Ieee.{Float}
 use Rattle.replay.specs.Table.{Outcome, refused}
 use Rattle.replay.specs.Machine.{Call, roomQuestion}
-use Rattle.rules.specs.Rules.{Answer, room, rules}
+use Rattle.rules.specs.Rules.{Answer, rules}
 use Rattle.calls.specs.Refusals.{outcomeOf, roomOf, reportOf, endingOf, chartedOf}
 use Rattle.calls.specs.Promises.{Moves, Asks, Reports}
 use Rattle.calls.specs.declared.RoomLeft.{RoomLeft}

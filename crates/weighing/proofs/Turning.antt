@@ -18,13 +18,13 @@ use Rattle.estimate.specs.declared.ByKind.{ByKind}
 use Rattle.estimate.proofs.Tables.{at}
 use Rattle.rows.specs.Walk.{older}
 use Rattle.records.specs.Records.{records, keys}
-use Rattle.records.specs.Held.{rank, held}
+use Rattle.records.specs.Held.{rank, held, Standing, Placed}
 use Rattle.weighing.specs.declared.Desk.{Desk}
 use Rattle.weighing.specs.declared.Context.{Context}
 use Rattle.weighing.specs.declared.Weighed.{Weighed}
 use Rattle.weighing.specs.Sitting.{sittingIn}
 use Rattle.weighing.specs.Trees.{leastAt, membersAt}
-use Rattle.weighing.specs.Visit.{endOf, Stands, Ready, CanVisit, Marked, Apart, Visited, mostLoss, LeafOf, Fits, CanAdd, ChildOf, CanAddUnseen}
+use Rattle.weighing.specs.Visit.{endOf, Ready, CanVisit, Marked, Apart, Visited, mostLoss, LeafOf, Fits, CanAdd, ChildOf, CanAddUnseen}
 use Rattle.weighing.proofs.Cursor.{turnKey, within, turn-at}
 use Rattle.records.proofs.Rising.{rank-mono}
 use Rattle.weighing.proofs.Blocks.{begins-self, block-key, key-older}
@@ -83,7 +83,7 @@ module _ {k : Desk} {costs : ByKind} {n : ℕ} {l old : List ℕ} {c : Context} 
     child-is : contextOf child ≡ older s a
     child-is = ap contextOf child-key ∙ contextOf-key (k .number) (older s a) (within k n l (q .weighable) (older s a) (steps.child-context q more a lt))
 
-    pub child-stands : Stands n l (children .next) child
+    pub child-stands : Standing n l × Placed child n (children .next) l
     child-stands = stands child-ready
 
     pub child-fits : child + c .span / 8 < 2 ^ 32

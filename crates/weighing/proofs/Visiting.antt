@@ -19,14 +19,15 @@ use Rattle.estimate.specs.declared.ByKind.{ByKind}
 use Rattle.estimate.proofs.Tables.{at}
 use Rattle.estimate.proofs.Unseen.{Flat}
 use Rattle.records.specs.Records.{width, records, keys}
-use Rattle.records.specs.Held.{rank, held, recordAt, tableOf, Rising}
+use Rattle.records.specs.Held.{rank, held, recordAt, tableOf, Rising, Standing, Placed}
+use Rattle.records.proofs.Rising.{rank-within}
 use Rattle.records.proofs.Finding.{held-lost}
 use Rattle.weighing.specs.declared.Desk.{Desk}
 use Rattle.weighing.specs.declared.Context.{Context}
 use Rattle.weighing.specs.declared.Weighed.{Weighed}
 use Rattle.weighing.specs.Sitting.{sittingIn}
 use Rattle.weighing.specs.Trees.{markAt, markOf}
-use Rattle.weighing.specs.Visit.{Stands, Ready, CanVisit, Visited, Countable, Small, LeafOf, LeafHere, leafMark}
+use Rattle.weighing.specs.Visit.{Ready, CanVisit, Visited, Countable, Small, LeafOf, LeafHere, leafMark}
 use Rattle.weighing.proofs.Cursor.{rank-own, within, past-absent, past-deepest}
 use Rattle.weighing.proofs.Counts.{table-here, table-small, costs-small, losses-here, small-here, absent-flat, absent-losses}
 use Rattle.weighing.proofs.Choosing as choosing
@@ -53,8 +54,11 @@ module _ {k : Desk} {costs : ByKind} {n : ℕ} {l s : List ℕ} {c : Context} {p
   f = losses (sittingIn k (records n l))
 
   -- the walk has come to its place
-  pub stands : Stands n l p (c .key)
-  stands = record { standing = q .weighable .standing; place = rw (q .key-is) (q .place) }
+  pub stands : Standing n l × Placed (c .key) n p l
+  stands = (q .weighable .standing, record { at = at-key; within = omega (arith, rank-within n l (c .key), at-key) })
+    where
+      at-key : p ≡ rank (c .key) (keys (records n l))
+      at-key = rw (q .key-is) (q .place)
 
   -- the decision at s is that of its key
   mark-here : (d : ℕ) → length s + d ≡ k .depth → markOf (k .symbols) (k .depth) f (keyOf (k .number) s) ≡ markAt (k .symbols) d f s

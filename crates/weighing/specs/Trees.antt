@@ -1,6 +1,5 @@
 -- The trees that stand at a context with d symbols left: what they lose at least, how many members they have, and which of them is taken.
 -- A kind stands for a tree: an own kind for a sample's own, the shared kind for both trees together. Assumes nothing.
-use mathlib.Core.Path.{_≡_}
 use mathlib.Core.Bool.{true, false, cond, not}
 use mathlib.Core.List.{List}
 use Prim.Native.Nat.{ℕ, zero, suc, _+_, _-_, _*_, min}

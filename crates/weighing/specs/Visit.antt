@@ -16,7 +16,7 @@ use Rattle.estimate.specs.Table.{CostsOf}
 use Rattle.estimate.specs.declared.ByKind.{ByKind}
 use Rattle.estimate.proofs.Tables.{at}
 use Rattle.records.specs.Records.{width, records, keys}
-use Rattle.records.specs.Held.{rank, held, recordAt, tableOf, Standing}
+use Rattle.records.specs.Held.{rank, held, recordAt, tableOf}
 use Rattle.weighing.specs.declared.Desk.{Desk}
 use Rattle.weighing.specs.declared.Context.{Context}
 use Rattle.weighing.specs.declared.Weighed.{Weighed}
@@ -32,11 +32,6 @@ spanOf s = 8 ^ (suc deepest - length s)
 -- where the block of a desk's context ends: no context that begins with s has this key or one above
 abbrev pub endOf : ℕ → List ℕ → ℕ
 endOf d s = d * deskSpan + (digits deepest s * 8 + spanOf s)
-
--- p is the place of a key among the first n records, or where it would stand
-pub record Stands (n : ℕ) (l : List ℕ) (p key : ℕ) : Type 0 where
-  pub standing : Standing n l
-  pub place : p ≡ rank key (keys (records n l))
 
 -- the counts of the record at a place can be weighed
 pub record Countable (l : List ℕ) (p : ℕ) (costs : ByKind) : Type 0 where

@@ -13,10 +13,10 @@ ghost use Rattle.estimate.specs.Table.{LossesOf};
 ghost use Rattle.records.specs.Held.{held, recordAt, tableOf};
 ghost use Rattle.weighing.specs.Trees.{choice};
 ghost use Rattle.weighing.specs.Weighs.{CanWeigh, Weighs};
-ghost use Rattle.weighing.specs.Visit.{Stands, Countable, CanVisit, Visited, Small, LeafOf, LeafHere, SplitOf, SplitHere, SumOf, Fits, NoneOf, CanAdd, ChildOf, CanAddUnseen, UnseenOf, leafMark, splitMark};
+ghost use Rattle.weighing.specs.Visit.{Countable, CanVisit, Visited, Small, LeafOf, LeafHere, SplitOf, SplitHere, SumOf, Fits, NoneOf, CanAdd, ChildOf, CanAddUnseen, UnseenOf, leafMark, splitMark};
 use estimate::ByKind;
 use records::DESK_SPAN;
-use records::WIDTH;
+use records::stands;
 
 // An open desk: its number, A, D and the samples' lengths.
 pub struct Desk {
@@ -48,7 +48,7 @@ pub fn weigh(logs: &[u32], numbers: &[u32], n: usize, desk: Desk, kept: &mut [u8
         left: desk.depth,
     };
     let at = records::place_of(numbers, n, key);
-    let w = if held_at(numbers, n, at, key) {
+    let w = if stands(numbers, n, at, key) {
         visit(logs, numbers, kept, n, desk, costs, root, at)
     } else {
         as_leaf(costs, at)
@@ -103,7 +103,7 @@ fn visit(
     let mut a: u32 = 0;
     while a < desk.symbols {
         let next = children.next;
-        if held_at(numbers, n, next, key) {
+        if stands(numbers, n, next, key) {
             let left = here.left - 1;
             let child = Context { key, span, left };
             let w = visit(logs, numbers, kept, n, desk, costs, child, next);
@@ -133,17 +133,6 @@ fn split_here(kept: &mut [u8], at: usize, own: ByKind, children: Weighed) -> Wei
 {
     kept[at] = split_mark(own, children.least);
     as_split(own, children)
-}
-
-// Whether the record at the place of a key has it.
-pub fn held_at(numbers: &[u32], n: usize, at: usize, key: u32) -> bool
-    requires { ⌜ Stands n (now numbers) at key ⌝ }
-    ensures { λ r. ⌜ r ≡ held key (records n (now (numbers .entry))) ⌝ }
-{
-    if n <= at {
-        return false;
-    }
-    numbers[WIDTH * at] == key
 }
 
 // The losses of the context of the record at a place.

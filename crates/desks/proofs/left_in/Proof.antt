@@ -1,63 +1,34 @@
--- `desks::left_in` meets its contract: `room` is K less what the desks so far have reserved. Assumes nothing.
-use Prim.Native.Nat.{_-_}
+-- `desks::left_in` meets its contract: K less what the desks have reserved, which a sound store has room for. Assumes nothing.
+use mathlib.Core.Path.{sym, ap, _∙_}
+use Prim.Native.Nat.{ℕ, _-_}
 use native.Mathlib.Omega.{arith}
-use Rattle.numbers.specs.Limits.{desks}
-use Rattle.desks.proofs.Reserving.{Taken, header-long, taken-none, taken-fits, taken-one, taken-all}
+use Rattle.store.specs.Layout.{room}
+use Rattle.desks.proofs.Reserving.{header-long, left-is, room-small, reserves-fit}
 use Rattle.desks.proofs.left_in.Statement.{statement}
 use Rattle.desks.proofs.left_in.Tie as tie
 
-abbrev Inv-loop : tie.InvT-loop
-Inv-loop store room₀ desk₀ room desk = Taken store desk room
+shared-slice-read-result : tie.Need-shared-slice-read-result
+shared-slice-read-result c = omega (arith, header-long (c .before .before .args .store .now) (c .before .before .pre))
 
-abbrev μ-loop : tie.MeasureT-loop
-μ-loop store room₀ desk₀ room desk = desks - desk
+cast-result : tie.Need-cast-result
+cast-result c = omega (arith, room-small (c .before .before .args .store .now) (c .before .before .pre))
 
-shared-slice-read-room : tie.Need-shared-slice-read-room Inv-loop μ-loop
-shared-slice-read-room c = omega (arith, header-long (c .before .before .args .store .now) (c .before .before .pre))
+reserved-requires : tie.Need-reserved-requires
+reserved-requires c κs = header-long (c .before .before .args .store .now) (c .before .before .pre)
 
-loop-holds : tie.Need-loop-holds Inv-loop μ-loop
-loop-holds c = taken-none (c .before .before .args .store .now) (c .before .before .pre)
+sub-result : tie.Need-sub-result
+sub-result c =
+    let start = c .before .before .before in
+    omega (arith, c .reserved .ensures, reserves-fit (start .args .store .now) (start .pre))
 
-reserved-at-requires : tie.Need-reserved-at-requires Inv-loop μ-loop
-reserved-at-requires c κs =
-    let start = c .before .before .before .before in
-    (header-long (start .args .store .now) (start .pre), omega arith)
+cast-result-2 : tie.Need-cast-result-2
+cast-result-2 c = omega (arith, room-small (c .before .before .before .args .store .now) (c .before .before .before .pre))
 
-sub-room : tie.Need-sub-room Inv-loop μ-loop
-sub-room c =
-    let start = c .before .before .before .before .before in
-    let at = c .before .before .loop in
-    rw (c .reserved-at .ensures) (taken-fits (start .args .store .now) (start .pre) (at .desk) (at .room) (at .inv) (omega arith))
-
-add-desk : tie.Need-add-desk Inv-loop μ-loop
-add-desk c = omega arith
-
-loop-less : tie.Need-loop-less Inv-loop μ-loop
-loop-less c = omega arith
-
-loop-again : tie.Need-loop-again Inv-loop μ-loop
-loop-again c =
-    let start = c .before .before .before .before .before in
-    let at = c .before .before .loop in
-    rw (c .reserved-at .ensures) (taken-one (start .args .store .now) (start .pre) (at .desk) (at .room) (at .inv) (omega arith))
-
-returns : tie.Need-returns Inv-loop μ-loop
+returns : tie.Need-returns
 returns c =
-    let start = c .before .before .before .before in
-    let at = c .before .loop in
-    taken-all (start .args .store .now) (start .pre) (at .desk) (at .room) (at .inv) (omega arith)
+    let s = c .before .before .before .args .store .now in
+    ap (λ (n : ℕ). room s - n) (c .reserved .ensures) ∙ sym (left-is s)
 
 pub left-in-spec : {M : Type 1} → statement M
 left-in-spec =
-    tie.close
-    (tie.spec
-    Inv-loop
-    μ-loop
-    shared-slice-read-room
-    loop-holds
-    reserved-at-requires
-    sub-room
-    add-desk
-    loop-less
-    loop-again
-    returns)
+    tie.close (tie.spec shared-slice-read-result cast-result reserved-requires sub-result cast-result-2 returns)

@@ -1,5 +1,4 @@
 -- `desks::open_reserving` meets its contract: one law of Granting for each way through it. Assumes nothing.
-use mathlib.Core.Path.{_≡_}
 use native.Mathlib.Omega.{arith}
 use Prim.Native.Nat.{_≤_}
 use borrow.Author.Needs.{needs}

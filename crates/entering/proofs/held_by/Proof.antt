@@ -1,4 +1,4 @@
--- `feeding::held_by` meets its contract: the desk's records lie between two places. Assumes nothing.
+-- `entering::held_by` meets its contract: the desk's records lie between two places. Assumes nothing.
 use mathlib.Core.Path.{_≡_}
 use Prim.Native.Nat.{_+_, _-_, _*_, _≤_}
 use native.Mathlib.Omega.{arith}

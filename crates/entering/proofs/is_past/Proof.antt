@@ -1,4 +1,4 @@
--- `feeding::is_past` meets its contract: refusal 10. Assumes nothing.
+-- `entering::is_past` meets its contract: refusal 10. Assumes nothing.
 use native.Mathlib.Omega.{arith}
 use Rattle.store.proofs.Standing.{sound-stands}
 use Rattle.entering.proofs.Asking.{none-past, few-places, spanned, sum-small, past-is}

@@ -1,4 +1,4 @@
--- `feeding::move_on` meets its contract. Assumes nothing.
+-- `entering::move_on` meets its contract. Assumes nothing.
 use native.Mathlib.Omega.{arith}
 use lib.ListN.{length-set}
 use borrow.Author.Needs.{needs}

@@ -1,4 +1,4 @@
--- `feeding::note` meets its contract. Assumes nothing.
+-- `entering::note` meets its contract. Assumes nothing.
 use native.Mathlib.Omega.{arith}
 use mathlib.Core.Path.{ap, _∙_}
 use lib.ListN.{length, length-set}

@@ -1,4 +1,4 @@
--- `feeding::seek_in` meets its contract. Assumes nothing.
+-- `entering::seek_in` meets its contract. Assumes nothing.
 use native.Mathlib.Omega.{arith}
 use Rattle.store.proofs.Standing.{sound-stands}
 use Rattle.entering.proofs.Asking.{lent-askable, located-in}

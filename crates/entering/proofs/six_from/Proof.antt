@@ -1,4 +1,4 @@
--- `feeding::six_from` meets its contract. Assumes nothing.
+-- `entering::six_from` meets its contract. Assumes nothing.
 use mathlib.Core.Path.{sym}
 use borrow.Author.Needs.{needs}
 use Rattle.entering.proofs.Sets.{six-read}

@@ -1,4 +1,4 @@
--- `feeding::write_feed` meets its contract. Assumes nothing.
+-- `entering::write_feed` meets its contract. Assumes nothing.
 use native.Mathlib.Omega.{arith}
 use borrow.Author.Needs.{needs}
 use Rattle.store.proofs.Standing.{sound-stands}

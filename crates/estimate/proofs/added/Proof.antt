@@ -1,7 +1,6 @@
 -- `estimate::added` meets its contract: each of the eight sums fits, since each count is at most its sample's sum. Assumes nothing.
 use Prim.Native.Nat.{ℕ, _+_, _<_}
 use native.Mathlib.Omega.{arith}
-use mathlib.Core.Path.{refl}
 use mathlib.Core.List.{[]}
 use borrow.Author.Needs.{needs}
 use lib.ListN.{getD}

@@ -1,4 +1,4 @@
--- `weighing::write_from` meets its contract, by recursion on the symbols left below the context. Assumes nothing.
+-- `listing::write_from` meets its contract, by recursion on the symbols left below the context. Assumes nothing.
 use mathlib.Core.Path.{_≡_, refl, sym, subst, subst₂, _∙_}
 use mathlib.Core.Bool.{true}
 use mathlib.Core.List.{List}

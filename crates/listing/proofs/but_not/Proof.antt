@@ -1,4 +1,4 @@
--- `weighing::but_not` meets its contract. Assumes nothing.
+-- `listing::but_not` meets its contract. Assumes nothing.
 use mathlib.Core.Path.{sym}
 use mathlib.Core.Bool.{and-true, and-false}
 use Rattle.listing.proofs.but_not.Statement.{statement}

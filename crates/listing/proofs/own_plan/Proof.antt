@@ -1,4 +1,4 @@
--- `weighing::own_plan` meets its contract. Assumes nothing.
+-- `listing::own_plan` meets its contract. Assumes nothing.
 use Rattle.listing.proofs.Putting.{own-plan-is}
 use borrow.Author.Needs.{needs}
 use Rattle.listing.proofs.own_plan.Statement.{statement}

@@ -1,4 +1,4 @@
--- `weighing::plan_of` meets its contract. Assumes nothing.
+-- `listing::plan_of` meets its contract. Assumes nothing.
 use mathlib.Core.Path.{_∙_}
 use borrow.Author.Tests.{not-true, not-false}
 use Rattle.listing.proofs.Putting.{plan-own, plan-shared, plan-separate, plan-split}

@@ -1,4 +1,4 @@
--- `weighing::put_here` meets its contract. Assumes nothing.
+-- `listing::put_here` meets its contract. Assumes nothing.
 use Rattle.listing.proofs.Putting as putting
 use borrow.Author.Needs.{needs}
 use Rattle.listing.proofs.put_here.Statement.{statement}

@@ -1,4 +1,4 @@
--- `weighing::put_if` meets its contract. Assumes nothing.
+-- `listing::put_if` meets its contract. Assumes nothing.
 use native.Mathlib.Omega.{arith}
 use borrow.Author.Tests.{not-true, not-false}
 use Rattle.listing.proofs.Putting.{if-none, if-long, if-one}

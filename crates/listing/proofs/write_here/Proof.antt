@@ -1,4 +1,4 @@
--- `weighing::write_here` meets its contract. Assumes nothing.
+-- `listing::write_here` meets its contract. Assumes nothing.
 use mathlib.Core.Path.{_≡_, ap, _∙_}
 use Rattle.listing.specs.declared.Plan.{Plan}
 use Rattle.listing.specs.Plans.{planOf}

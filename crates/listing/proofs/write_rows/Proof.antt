@@ -1,5 +1,5 @@
--- `weighing::write_rows` meets its contract: it writes all that is wanted of both trees from the empty context on. Assumes nothing.
-use mathlib.Core.Path.{_≡_, sym, subst}
+-- `listing::write_rows` meets its contract: it writes all that is wanted of both trees from the empty context on. Assumes nothing.
+use mathlib.Core.Path.{sym, subst}
 use mathlib.Core.List.{List}
 use Prim.Native.Nat.{ℕ}
 use borrow.Author.Needs.{needs}

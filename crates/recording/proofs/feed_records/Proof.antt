@@ -1,4 +1,4 @@
--- `records::feed_records` meets its contract: the first `done` contexts, which are held, have got one more. Assumes nothing.
+-- `recording::feed_records` meets its contract: the first `done` contexts, which are held, have got one more. Assumes nothing.
 use mathlib.Core.Path.{_≡_}
 use Prim.Native.Nat.{_+_, _-_, _*_, _≤_, _<_}
 use native.Mathlib.Omega.{arith}

@@ -1,4 +1,4 @@
--- `records::insert` meets its contract: the part has been shifted, and the new records stand at its front. Assumes nothing.
+-- `recording::insert` meets its contract: the part has been shifted, and the new records stand at its front. Assumes nothing.
 use mathlib.Core.Path.{_≡_, sym, _∙_}
 use Prim.Native.Nat.{_+_, _-_, _*_}
 use native.Mathlib.Omega.{arith}

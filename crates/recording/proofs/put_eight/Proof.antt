@@ -1,4 +1,4 @@
--- `records::put_eight` meets its contract. Assumes nothing.
+-- `recording::put_eight` meets its contract. Assumes nothing.
 use native.Mathlib.Omega.{arith}
 use lib.ListN.{length-set}
 use Rattle.records.proofs.Cells.{eight-written}

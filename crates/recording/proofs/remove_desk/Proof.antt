@@ -1,4 +1,4 @@
--- `records::remove_desk` meets its contract: the desk's records lie between two places. Assumes nothing.
+-- `recording::remove_desk` meets its contract: the desk's records lie between two places. Assumes nothing.
 use mathlib.Core.Path.{_≡_}
 use Prim.Native.Nat.{_≤_, _+_, _*_}
 use native.Mathlib.Omega.{arith}

@@ -1,4 +1,4 @@
--- `records::shift_down` meets its contract: the first i numbers have been moved down. Assumes nothing.
+-- `recording::shift_down` meets its contract: the first i numbers have been moved down. Assumes nothing.
 use mathlib.Core.Path.{_≡_, refl, ap, _∙_}
 use Prim.Native.Nat.{_≤_, _-_}
 use native.Mathlib.Omega.{arith}

@@ -1,4 +1,4 @@
--- `records::shift_up` meets its contract: the numbers from i on have been moved up. Assumes nothing.
+-- `recording::shift_up` meets its contract: the numbers from i on have been moved up. Assumes nothing.
 use mathlib.Core.Path.{_≡_, refl, ap, _∙_}
 use Prim.Native.Nat.{_≤_, _-_, _%_}
 use native.Mathlib.Omega.{arith}

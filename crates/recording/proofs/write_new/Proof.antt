@@ -1,4 +1,4 @@
--- `records::write_new` meets its contract: the first i numbers are 0. Assumes nothing.
+-- `recording::write_new` meets its contract: the first i numbers are 0. Assumes nothing.
 use mathlib.Core.Path.{_≡_, refl}
 use mathlib.Core.List.{_++_}
 use Prim.Native.Nat.{_≤_, _-_}

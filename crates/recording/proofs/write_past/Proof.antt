@@ -1,4 +1,4 @@
--- `records::write_past` meets its contract. Assumes nothing.
+-- `recording::write_past` meets its contract. Assumes nothing.
 use mathlib.Core.Path.{refl}
 use native.Mathlib.Omega.{arith}
 use Rattle.recording.proofs.Opening.{appended}

@@ -1,10 +1,9 @@
--- `records::write_run` meets its contract: the records of the contexts that are shorter than `seen` are written. Assumes nothing.
+-- `recording::write_run` meets its contract: the records of the contexts that are shorter than `seen` are written. Assumes nothing.
 use mathlib.Core.Path.{_≡_, refl}
 use Prim.Native.Nat.{_+_, _-_, _≤_}
 use native.Mathlib.Omega.{arith}
 use borrow.Author.Needs.{needs}
 use lib.ListN.{length}
-use Rattle.records.specs.Records.{records}
 use Rattle.records.proofs.KeyWalk.{Walk, walk-start, walk-fits, walk-on}
 use Rattle.recording.proofs.Opening.{Run, run-start, run-on}
 use Rattle.recording.proofs.write_run.Statement.{statement}

@@ -1,6 +1,6 @@
 -- `report::desk_in` meets its contract. Assumes nothing.
 use Prim.Native.Nat.{ℕ}
-use mathlib.Core.Path.{_≡_, ap, ap₂, _∙_}
+use mathlib.Core.Path.{_≡_}
 use borrow.Author.Needs.{needs}
 use Rattle.weighing.specs.declared.Desk.{Desk}
 use Rattle.report.proofs.desk_in.Statement.{statement}

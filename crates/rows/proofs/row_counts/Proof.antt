@@ -1,12 +1,9 @@
 -- `rows::row_counts` meets its contract: the kind picks the added counts or a sample's. Assumes nothing.
 use Prim.Native.Nat.{ℕ, zero, suc}
-use mathlib.Core.Path.{_≡_, refl, ap, _∙_}
-use mathlib.Core.List.{List, []}
+use mathlib.Core.Path.{_≡_, refl}
 use borrow.Author.Needs.{needs}
-use lib.ListN.{getD}
-use Rattle.contexts.specs.Sitting.{second, eight}
+use Rattle.contexts.specs.Sitting.{second}
 use Rattle.estimate.specs.Trees.{own}
-use Rattle.estimate.specs.Table.{countsIn}
 use Rattle.rows.specs.Rows.{kindOf}
 use Rattle.rows.proofs.row_counts.Statement.{statement}
 use Rattle.rows.proofs.row_counts.Tie as tie

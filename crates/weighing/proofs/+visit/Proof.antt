@@ -15,7 +15,7 @@ use Rattle.weighing.proofs.visit.Kinds as visit-kinds
 use Rattle.weighing.proofs.+visit.Lts-visit as lts
 use Rattle.weighing.proofs.and_child.Reads as and-child-reads
 use Rattle.weighing.proofs.and_unseen.Reads as and-unseen-reads
-use Rattle.weighing.proofs.held_at.Reads as held-at-reads
+use Rattle.records.proofs.stands.Reads as stands-reads
 use Rattle.weighing.proofs.leaf_here.Reads as leaf-here-reads
 use Rattle.weighing.proofs.losses_at.Reads as losses-at-reads
 use Rattle.weighing.proofs.none_yet.Reads as none-yet-reads
@@ -41,7 +41,7 @@ module _ (t : ℕ) where
 
   -- what the calls ask and give
   abbrev calls : lts.Claims
-  calls = (losses-at-reads.Asked, losses-at-reads.Learnt, leaf-here-reads.Asked, leaf-here-reads.Learnt, none-yet-reads.Asked, none-yet-reads.Learnt, held-at-reads.Asked, held-at-reads.Learnt, Below, visit.Post, and-child-reads.Asked, and-child-reads.Learnt, and-unseen-reads.Asked, and-unseen-reads.Learnt, split-here-reads.Asked, split-here-reads.Learnt)
+  calls = (losses-at-reads.Asked, losses-at-reads.Learnt, leaf-here-reads.Asked, leaf-here-reads.Learnt, none-yet-reads.Asked, none-yet-reads.Learnt, stands-reads.Asked, stands-reads.Learnt, Below, visit.Post, and-child-reads.Asked, and-child-reads.Learnt, and-unseen-reads.Asked, and-unseen-reads.Learnt, split-here-reads.Asked, split-here-reads.Learnt)
 
   -- ---- the context itself
 
@@ -86,8 +86,8 @@ module _ (t : ℕ) where
   abbrev from : lts.At-loop calls Given visit.Post Inv todo → lts.Start calls Given visit.Post Inv todo
   from m = start (deeper m .before .before)
 
-  held-at-requires : lts.Need-held-at-requires calls Given visit.Post Inv todo
-  held-at-requires c κs = let m = c .before .before in child-stands (from m .pre .1 .1) (deeper m .if1 .left) (m .loop .inv) (c .if2 .taken)
+  stands-requires : lts.Need-stands-requires calls Given visit.Post Inv todo
+  stands-requires c κs = let m = c .before .before in child-stands (from m .pre .1 .1) (deeper m .if1 .left) (m .loop .inv) (c .if2 .taken)
 
   sub-left : lts.Need-sub-left calls Given visit.Post Inv todo
   sub-left c = omega (arith, deeper (c .before .before .before .before .before) .if1 .left)
@@ -98,7 +98,7 @@ module _ (t : ℕ) where
       let e = h .before .before in
       let m = e .before .before in
       let more = deeper m .if1 .left in
-      (omega (arith, from m .pre .0, more), (from m .pre .1 .0, can-visit (from m .pre .1 .1) more (m .loop .inv) (e .if2 .taken) (sym (h .before .held-at .ensures) ∙ h .if3 .taken)))
+      (omega (arith, from m .pre .0, more), (from m .pre .1 .0, can-visit (from m .pre .1 .1) more (m .loop .inv) (e .if2 .taken) (sym (h .before .stands .ensures) ∙ h .if3 .taken)))
 
   and-child-requires : lts.Need-and-child-requires calls Given visit.Post Inv todo
   and-child-requires c κs =
@@ -111,7 +111,7 @@ module _ (t : ℕ) where
   and-unseen-requires c κs =
       let e = c .before .before in
       let m = e .before .before in
-      can-add-unseen (from m .pre .1 .1) (deeper m .if1 .left) (m .loop .inv) (e .if2 .taken) (sym (c .before .held-at .ensures) ∙ c .if3 .left)
+      can-add-unseen (from m .pre .1 .1) (deeper m .if1 .left) (m .loop .inv) (e .if2 .taken) (sym (c .before .stands .ensures) ∙ c .if3 .left)
 
   add-key-2 : lts.Need-add-key-2 calls Given visit.Post Inv todo
   add-key-2 c = let e = c .before .before in let m = e .before .before in record { fits = child-fits (from m .pre .1 .1) (deeper m .if1 .left) (m .loop .inv) (e .if2 .taken) }
@@ -131,7 +131,7 @@ module _ (t : ℕ) where
       let lt = e .if2 .taken in
       ⊎-elim
       (λ w. turn-next v more (m .loop .inv) lt (w .3 .ensures) (w .3 .kept .1 .1 .0) (w .6 .ensures) (w .7) (w .8))
-      (λ w. let u = w .1 .ensures in turn-next v more (m .loop .inv) lt (unseen v more (m .loop .inv) lt (sym (c .before .held-at .ensures) ∙ w .0 .left) (u .is)) refl (u .child) (w .2) (w .3))
+      (λ w. let u = w .1 .ensures in turn-next v more (m .loop .inv) lt (unseen v more (m .loop .inv) lt (sym (c .before .stands .ensures) ∙ w .0 .left) (u .is)) refl (u .child) (w .2) (w .3))
       (c .if3 .came)
 
   -- ---- after the last child
@@ -158,5 +158,5 @@ pub +visit-spec : {M : Type 1} → statement M
 +visit-spec = close left λ t. lts.spec (calls t) (Given t) visit.Post Inv todo
     (losses-at-requires t) (leaf-here-requires t) (same-length t) (returns t)
     (add-key t) (add-none-yet t) (none-yet-requires t) (loop-holds t)
-    (held-at-requires t) (sub-left t) (visit-requires t) (and-child-requires t) (and-unseen-requires t) (add-key-2 t) (add-a t) (loop-less t) (loop-again t)
+    (stands-requires t) (sub-left t) (visit-requires t) (and-child-requires t) (and-unseen-requires t) (add-key-2 t) (add-a t) (loop-less t) (loop-again t)
     (split-here-requires t) (same-length-2 t) (returns-2 t)

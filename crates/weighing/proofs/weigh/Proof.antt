@@ -18,15 +18,15 @@ mul-key c = search needs
 place-of-requires : tie.Need-place-of-requires
 place-of-requires c κs = search needs
 
-held-at-requires : tie.Need-held-at-requires
-held-at-requires c κs = search needs
+stands-requires : tie.Need-stands-requires
+stands-requires c κs = search needs
 
 visit-requires : tie.Need-visit-requires
 visit-requires c κs =
     let h = c .before .before in
     let o = h .before .before .before in
     let s = o .before .before .before .before in
-    (s .pre .0, record { ready = root-ready (s .pre .1 .weighable) (h .before .place-of .ensures .at) (o .costs-of .ensures); on = sym (h .held-at .ensures) ∙ c .before .if1 .taken; beside = s .pre .1 .beside })
+    (s .pre .0, record { ready = root-ready (s .pre .1 .weighable) (h .before .place-of .ensures .at) (o .costs-of .ensures); on = sym (h .stands .ensures) ∙ c .before .if1 .taken; beside = s .pre .1 .beside })
 
 as-leaf-requires : tie.Need-as-leaf-requires
 as-leaf-requires c κs =
@@ -46,10 +46,10 @@ returns c =
     let at = h .before .place-of .ensures .at in
     ⊎-elim
     (λ v. weighed w at (v .2 .ensures) (omega (arith, v .2 .kept .1 .1 .0, s .pre .1 .beside)) (v .5) (v .6))
-    (λ v. weighed w at (answer-absent (root-ready w at (o .costs-of .ensures)) (sym (h .held-at .ensures) ∙ v .0 .left) (s .args .kept .now) (v .1 .ensures)) (s .pre .1 .beside) (v .2) (v .3))
+    (λ v. weighed w at (answer-absent (root-ready w at (o .costs-of .ensures)) (sym (h .stands .ensures) ∙ v .0 .left) (s .args .kept .now) (v .1 .ensures)) (s .pre .1 .beside) (v .2) (v .3))
     (c .before .before .if1 .came)
 
 pub weigh-spec : {M : Type 1} → statement M
 weigh-spec =
     tie.close
-    (tie.spec costs-of-requires mul-key place-of-requires held-at-requires visit-requires as-leaf-requires same-length returns)
+    (tie.spec costs-of-requires mul-key place-of-requires stands-requires visit-requires as-leaf-requires same-length returns)

@@ -1,6 +1,6 @@
 -- `player::answers::say_bits` is safe: a float that equals itself is a number, so that it has bits. Assumes nothing.
-use mathlib.Core.Path.{_≡_, sym, subst}
-use mathlib.Core.Bool.{true, not}
+use mathlib.Core.Path.{sym, subst}
+use mathlib.Core.Bool.{not}
 use lib.Dec.{T}
 use lib.Ieee.{Float, nan, inf, fin, eq, isNan}
 use borrow.Author.Needs.{needs}
