@@ -10,22 +10,17 @@ ghost use Rattle.calls.specs.Refusals.{endingOf};
 ghost use Rattle.printing.specs.Putting.{Printed};
 ghost use Rattle.sitting_file.specs.Format.{readOf};
 ghost use Rattle.sitting_file.specs.declared.Reading.the-variants.{Accepted};
-ghost use Rattle.answering.specs.Judgement.{roomMade};
-ghost use Rattle.answering.specs.Sitting.{seated, fedBoth, runOf, Means, Feeds};
-ghost use Rattle.answering.specs.Answers.{toldOf, Answers};
-ghost use Rattle.answering.specs.Prints.{CanPrint, textFrom, Prints};
+ghost use Rattle.judgement.specs.Judgement.{roomMade};
+ghost use Rattle.judgement.specs.Sitting.{seated, fedBoth, runOf, Means, Feeds};
+ghost use Rattle.judgement.specs.Answers.{toldOf, Answers};
+ghost use Rattle.judgement.specs.Prints.{CanPrint, textFrom, Prints};
 use calls::Ending;
 use calls::ReportAnswer;
+use judgement::SittingAnswer;
 use printing::Head;
 use printing::TEXT_BYTES;
 use sitting_file::Reading;
 use sitting_file::Shape;
-
-// The report's first line, or the refusal's number. The rows are on the sheet.
-pub enum SittingAnswer {
-    Reported(Head),
-    Refused(u32),
-}
 
 // 2,048 + 24 times 256 numbers.
 pub const STORE_NUMBERS: usize = 8192;

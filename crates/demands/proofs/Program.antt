@@ -11,10 +11,10 @@ use Rattle.rules.specs.Feed.{countedFrom}
 use Rattle.printing.specs.declared.Head.{Head}
 use Rattle.sitting_file.specs.Samples.{firstOf, secondOf}
 use Rattle.sitting_file.specs.declared.Shape.{Shape}
-use Rattle.answering.specs.Judgement.{openingOf, stringsIn, sittingIn, Judged, judgement}
-use Rattle.answering.specs.Answers as answers
-use Rattle.answering.specs.declared.SittingAnswer.the-variants as answer
-use Rattle.answering.proofs.Texts.{stands}
+use Rattle.judgement.specs.Judgement.{openingOf, stringsIn, sittingIn, Judged, judgement}
+use Rattle.judgement.specs.Answers as answers
+use Rattle.judgement.specs.declared.SittingAnswer.the-variants as answer
+use Rattle.judgement.proofs.Texts.{stands}
 use Rattle.demands.specs.Demands.{JointEstimate}
 use Rattle.demands.specs.Program.{sampleIn, OfItsFile, DemandOfProgram}
 use Rattle.demands.proofs.Estimate.{joint-estimate, counts-by-place}

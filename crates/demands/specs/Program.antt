@@ -13,9 +13,9 @@ use Rattle.sitting_file.specs.Format.{readOf}
 use Rattle.sitting_file.specs.Samples.{firstOf, secondOf}
 use Rattle.sitting_file.specs.declared.Shape.{Shape}
 use Rattle.sitting_file.specs.declared.Reading.the-variants.{Accepted}
-use Rattle.answering.specs.Judgement.{openingOf, sittingIn}
-use Rattle.answering.specs.Answers.{headed, Answers}
-use Rattle.answering.specs.declared.SittingAnswer.the-variants as answer
+use Rattle.judgement.specs.Judgement.{openingOf, sittingIn}
+use Rattle.judgement.specs.Answers.{headed, Answers}
+use Rattle.judgement.specs.declared.SittingAnswer.the-variants as answer
 use Rattle.demands.specs.Demands.{JointEstimate}
 
 -- a sample of the file as it stands there, oldest symbol first

@@ -3,7 +3,7 @@ use libc::STDIN_FILENO;
 use libc::STDOUT_FILENO;
 use printing::TEXT_BYTES;
 
-// Longer input is judged on its first 2,048 bytes, which show the fault of the whole (answering/proofs/Longer `input-read`).
+// Longer input is judged on its first 2,048 bytes, which show the fault of the whole (judgement/proofs/Longer `input-read`).
 fn main() {
     let mut input = [0u8; 2048];
     let many = io::read_full(STDIN_FILENO, &mut input);

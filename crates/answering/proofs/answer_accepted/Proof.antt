@@ -1,6 +1,6 @@
 -- `answering::answer_accepted` meets its contract: a refused feed's number, or the report's answer, is the judgement. Assumes nothing.
 use borrow.Author.Needs.{needs}
-use Rattle.answering.proofs.Judging.{feed-refused, report-told}
+use Rattle.judgement.proofs.Judging.{feed-refused, report-told}
 use Rattle.answering.proofs.answer_accepted.Statement.{statement}
 use Rattle.answering.proofs.answer_accepted.Tie as tie
 

@@ -1,6 +1,6 @@
 -- `answering::feed_both` meets its contract: the first sample's run, and the second's where the first is whole. Assumes nothing.
 use borrow.Author.Needs.{needs}
-use Rattle.answering.proofs.Seating.{first-stops, second-ends}
+use Rattle.judgement.proofs.Seating.{first-stops, second-ends}
 use Rattle.answering.proofs.feed_both.Statement.{statement}
 use Rattle.answering.proofs.feed_both.Tie as tie
 

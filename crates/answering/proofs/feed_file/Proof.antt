@@ -4,7 +4,7 @@ use native.Mathlib.Omega.{arith}
 use borrow.Author.Needs.{needs}
 use lib.ListN.{length}
 use Rattle.sitting_file.proofs.AcceptedFile.{accepted-holds}
-use Rattle.answering.proofs.Seating.{file-fed}
+use Rattle.judgement.proofs.Seating.{file-fed}
 use Rattle.answering.proofs.feed_file.Statement.{statement}
 use Rattle.answering.proofs.feed_file.Tie as tie
 

@@ -2,8 +2,8 @@
 use mathlib.Core.Path.{sym, subst}
 use borrow.Author.Needs.{needs}
 use Rattle.printing.specs.Putting.{Printed}
-use Rattle.answering.specs.Prints.{CanPrint, textFrom}
-use Rattle.answering.specs.declared.SittingAnswer.{SittingAnswer}
+use Rattle.judgement.specs.Prints.{CanPrint, textFrom}
+use Rattle.judgement.specs.declared.SittingAnswer.{SittingAnswer}
 use Rattle.answering.proofs.put_answer.Statement.{statement}
 use Rattle.answering.proofs.put_answer.Tie as tie
 

@@ -1,6 +1,6 @@
 -- `answering::seat` meets its contract: the store is made, and the desk opens. Assumes nothing.
 use borrow.Author.Needs.{needs}
-use Rattle.answering.proofs.Seating.{seat-means}
+use Rattle.judgement.proofs.Seating.{seat-means}
 use Rattle.answering.proofs.seat.Statement.{statement}
 use Rattle.answering.proofs.seat.Tie as tie
 

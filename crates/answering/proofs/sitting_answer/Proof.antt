@@ -2,7 +2,7 @@
 use native.Mathlib.Omega.{arith}
 use mathlib.Core.Path.{sym, _∙_}
 use borrow.Author.Needs.{needs}
-use Rattle.answering.proofs.Judging.{reader-refuses}
+use Rattle.judgement.proofs.Judging.{reader-refuses}
 use Rattle.answering.proofs.sitting_answer.Statement.{statement}
 use Rattle.answering.proofs.sitting_answer.Tie as tie
 

@@ -1,6 +1,6 @@
 -- `answering::sitting_text` meets its contract: the answer is found, and its text is put. Assumes nothing.
 use borrow.Author.Needs.{needs}
-use Rattle.answering.proofs.Texts.{can-print, answer-prints}
+use Rattle.judgement.proofs.Texts.{can-print, answer-prints}
 use Rattle.answering.proofs.sitting_text.Statement.{statement}
 use Rattle.answering.proofs.sitting_text.Tie as tie
 

@@ -2,7 +2,7 @@
 use borrow.Author.Needs.{needs}
 use mir.Syntax.{w64}
 use mir.ValLaws.{toZ-ofZ}
-use Rattle.answering.proofs.Telling.{told-refused, told-rows}
+use Rattle.judgement.proofs.Telling.{told-refused, told-rows}
 use Rattle.answering.proofs.told.Statement.{statement}
 use Rattle.answering.proofs.told.Tie as tie
 

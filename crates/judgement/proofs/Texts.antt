@@ -21,10 +21,10 @@ use Rattle.sitting_file.specs.Samples.{InLimits}
 use Rattle.sitting_file.specs.declared.Reading.{Reading}
 use Rattle.sitting_file.specs.declared.Reading.the-variants as reading
 use Rattle.sitting_file.proofs.AcceptedFile.{accepted-holds}
-use Rattle.answering.specs.Judgement.{sheetNumbers, sittingIn, linesOf, Judged, judged, judgement}
-use Rattle.answering.specs.Answers.{answerOf, sheetOf, Answers}
-use Rattle.answering.specs.Prints.{linesText, textOf, CanPrint, textFrom, Prints}
-use Rattle.answering.specs.declared.SittingAnswer.{SittingAnswer}
+use Rattle.judgement.specs.Judgement.{sheetNumbers, sittingIn, linesOf, Judged, judged, judgement}
+use Rattle.judgement.specs.Answers.{answerOf, sheetOf, Answers}
+use Rattle.judgement.specs.Prints.{linesText, textOf, CanPrint, textFrom, Prints}
+use Rattle.judgement.specs.declared.SittingAnswer.{SittingAnswer}
 
 -- rows one after another, whatever follows them on the sheet
 rows-lines : (A : ℕ) (rs : List Row) (rest : List ℕ) → AllFit rs → rowsText A (length rs) (rows.sheetOf rs ++ rest) ≡ linesText A rs

@@ -11,10 +11,10 @@ use Rattle.rules.specs.Report.{report}
 use Rattle.sitting_file.specs.Format.{readOf}
 use Rattle.sitting_file.specs.declared.Shape.{Shape}
 use Rattle.sitting_file.specs.declared.Reading.the-variants.{Accepted}
-use Rattle.answering.specs.Judgement.{sittingIn, linesOf, Judged, judged}
-use Rattle.answering.specs.Answers.{answerOf, Answers}
-use Rattle.answering.specs.declared.SittingAnswer.{SittingAnswer}
-use Rattle.answering.specs.declared.SittingAnswer.the-variants.{Refused}
+use Rattle.judgement.specs.Judgement.{sittingIn, linesOf, Judged, judged}
+use Rattle.judgement.specs.Answers.{answerOf, Answers}
+use Rattle.judgement.specs.declared.SittingAnswer.{SittingAnswer}
+use Rattle.judgement.specs.declared.SittingAnswer.the-variants.{Refused}
 
 refusal-of : (j : Outcome Judged) (n : ℕ) → answerOf j ≡ Refused n → j ≡ refused n
 unfolding answerOf

@@ -9,11 +9,11 @@ use Rattle.sitting_file.specs.declared.Refusal.{Refusal}
 use Rattle.sitting_file.specs.declared.Reading.{Reading}
 use Rattle.sitting_file.specs.declared.Reading.the-variants.{Accepted, Refused}
 use Rattle.printing.proofs.Settled.{printed-settles}
-use Rattle.answering.specs.Judgement.{sheetNumbers, judgement}
-use Rattle.answering.specs.Prints.{textOf, Prints}
-use Rattle.answering.specs.Sitting.{runOf}
-use Rattle.answering.specs.Answers.{StoreAfter, Answers}
-use Rattle.answering.specs.declared.SittingAnswer.{SittingAnswer}
+use Rattle.judgement.specs.Judgement.{sheetNumbers, judgement}
+use Rattle.judgement.specs.Prints.{textOf, Prints}
+use Rattle.judgement.specs.Sitting.{runOf}
+use Rattle.judgement.specs.Answers.{StoreAfter, Answers}
+use Rattle.judgement.specs.declared.SittingAnswer.{SittingAnswer}
 
 -- two stores lent, with one sheet
 pub record SameAnswer (file store other : List ℕ) (r q : SittingAnswer) (x y sheet sheet′ : List ℕ) : Type 0 where

@@ -23,12 +23,12 @@ use Rattle.calls.specs.declared.ReportAnswer.{ReportAnswer}
 use Rattle.calls.specs.declared.ReportAnswer.the-variants as written
 use Rattle.sitting_file.specs.Samples.{Holds, firstOf, secondOf}
 use Rattle.sitting_file.specs.declared.Shape.{Shape}
-use Rattle.answering.specs.Judgement.{openingOf, stringsIn, sittingIn, emptySample, Judged}
-use Rattle.answering.specs.Answers as answers
-use Rattle.answering.specs.Answers.{headed, sheetOf, toldOf}
-use Rattle.answering.specs.declared.SittingAnswer.{SittingAnswer}
-use Rattle.answering.specs.declared.SittingAnswer.the-variants as answer
-use Rattle.answering.proofs.Feeds.{Sits}
+use Rattle.judgement.specs.Judgement.{openingOf, stringsIn, sittingIn, emptySample, Judged}
+use Rattle.judgement.specs.Answers as answers
+use Rattle.judgement.specs.Answers.{headed, sheetOf, toldOf}
+use Rattle.judgement.specs.declared.SittingAnswer.{SittingAnswer}
+use Rattle.judgement.specs.declared.SittingAnswer.the-variants as answer
+use Rattle.judgement.proofs.Feeds.{Sits}
 
 -- ---- one table, two answers
 pub data Alike {A B : Type 0} (x : A) (y : B) : Outcome A → Outcome B → Type 0 where

@@ -23,7 +23,7 @@ use Rattle.rules.proofs.OwnReport.{many-same}
 use Rattle.calls.specs.Run.{Run, feeding, fedRun}
 use Rattle.calls.specs.Run as run
 use Rattle.sitting_file.specs.Samples.{Below}
-use Rattle.answering.proofs.Growing.{pushed, held-pushed}
+use Rattle.judgement.proofs.Growing.{pushed, held-pushed}
 
 -- desk 0 is open, and has what two strings make it
 pub record Sits (o : Opening) (w : Sample → List ℕ) (ρ : Room Progress) : Type 0 where

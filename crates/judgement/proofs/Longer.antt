@@ -8,7 +8,7 @@ use lib.ListN.{length, take}
 use lib.Seq.{take-all}
 use Rattle.sitting_file.specs.Input.{inputBytes}
 use Rattle.sitting_file.proofs.LongInput.{input-judged}
-use Rattle.answering.specs.Judgement.{judged, judgement}
+use Rattle.judgement.specs.Judgement.{judged, judgement}
 
 -- THEOREM. "Longer input is judged on its first 2,048 bytes": the judgement is the whole input's
 pub input-read : (input : List ℕ) (sheet : ℕ) → judgement (take inputBytes input) sheet ≡ judgement input sheet

@@ -14,10 +14,10 @@ use Rattle.sitting_file.specs.Format.{readOf}
 use Rattle.sitting_file.specs.declared.Shape.{Shape}
 use Rattle.sitting_file.specs.declared.Reading.{Reading}
 use Rattle.sitting_file.specs.declared.Reading.the-variants as reading
-use Rattle.answering.specs.Judgement.{Judged, judgement}
-use Rattle.answering.specs.Sitting.{runOf, Means}
-use Rattle.answering.specs.declared.SittingAnswer.{SittingAnswer}
-use Rattle.answering.specs.declared.SittingAnswer.the-variants.{Reported, Refused}
+use Rattle.judgement.specs.Judgement.{Judged, judgement}
+use Rattle.judgement.specs.Sitting.{runOf, Means}
+use Rattle.judgement.specs.declared.SittingAnswer.{SittingAnswer}
+use Rattle.judgement.specs.declared.SittingAnswer.the-variants.{Reported, Refused}
 
 -- "A, D, n, m, row count, doubled score"
 abbrev pub headed : Shape → ℕ → ℤ → Head

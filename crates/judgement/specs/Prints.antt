@@ -6,10 +6,10 @@ use Rattle.rows.specs.Rows.{Row, numbersOf}
 use Rattle.replay.specs.Table.{Outcome, refused, answered}
 use Rattle.printing.specs.Text.{headText, rowText, reportText, refusalText}
 use Rattle.printing.specs.Putting.{Printable, Printed}
-use Rattle.answering.specs.Judgement.{sheetNumbers, Judged, judgement}
-use Rattle.answering.specs.Answers.{answerOf, Answers}
-use Rattle.answering.specs.declared.SittingAnswer.{SittingAnswer}
-use Rattle.answering.specs.declared.SittingAnswer.the-variants.{Reported, Refused}
+use Rattle.judgement.specs.Judgement.{sheetNumbers, Judged, judgement}
+use Rattle.judgement.specs.Answers.{answerOf, Answers}
+use Rattle.judgement.specs.declared.SittingAnswer.{SittingAnswer}
+use Rattle.judgement.specs.declared.SittingAnswer.the-variants.{Reported, Refused}
 
 -- "then a line for each row with kind, length, code and A counts"
 unfoldable pub linesText : ℕ → List Row → List ℕ

@@ -26,8 +26,8 @@ use Rattle.calls.specs.declared.Ending.{Ending}
 use Rattle.calls.specs.declared.Ending.the-variants as ending
 use Rattle.sitting_file.specs.Samples.{firstOf, secondOf}
 use Rattle.sitting_file.specs.declared.Shape.{Shape}
-use Rattle.answering.specs.Judgement.{roomMade, openingOf}
-use Rattle.answering.specs.Sitting.{seated, followedBy, fedBoth, runOf, Means, Feeds}
+use Rattle.judgement.specs.Judgement.{roomMade, openingOf}
+use Rattle.judgement.specs.Sitting.{seated, followedBy, fedBoth, runOf, Means, Feeds}
 
 -- a store long enough is made
 made-done : (s : List ℕ) → storeSize roomMade ≤ length s → madeOf roomMade (length s) ≡ Done

@@ -13,7 +13,7 @@ use Rattle.rules.specs.Rules.{Answer, rules}
 use Rattle.calls.specs.Run.{Run, fedRun}
 use Rattle.sitting_file.specs.Samples.{firstOf, secondOf}
 use Rattle.sitting_file.specs.declared.Shape.{Shape}
-use Rattle.answering.specs.Judgement.{roomMade, openingOf}
+use Rattle.judgement.specs.Judgement.{roomMade, openingOf}
 
 -- "makes a store .. (K 256) .. opens desk 0 with r 256"
 unfoldable pub seated : Shape → Room Progress

@@ -7,9 +7,9 @@ use Rattle.calls.specs.declared.Refusal.{Refusal}
 use Rattle.calls.specs.declared.ReportAnswer.{ReportAnswer}
 use Rattle.calls.specs.declared.ReportAnswer.the-variants as written
 use Rattle.sitting_file.specs.declared.Shape.{Shape}
-use Rattle.answering.specs.Answers.{headed, toldOf}
-use Rattle.answering.specs.declared.SittingAnswer.{SittingAnswer}
-use Rattle.answering.specs.declared.SittingAnswer.the-variants.{Reported, Refused}
+use Rattle.judgement.specs.Answers.{headed, toldOf}
+use Rattle.judgement.specs.declared.SittingAnswer.{SittingAnswer}
+use Rattle.judgement.specs.declared.SittingAnswer.the-variants.{Reported, Refused}
 
 module _ (shape : Shape) (x : ReportAnswer) where
   pub told-refused : {why : Refusal} {r : ℕ} → x ≡ written.Refused why → r ≡ refusalNumber why → Refused r ≡ toldOf shape x

@@ -23,15 +23,15 @@ use Rattle.sitting_file.specs.declared.Shape.{Shape}
 use Rattle.sitting_file.specs.declared.Reading.{Reading}
 use Rattle.sitting_file.specs.declared.Reading.the-variants as reading
 use Rattle.sitting_file.proofs.AcceptedFile.{accepted-holds}
-use Rattle.answering.specs.Judgement.{roomMade, openingOf, stringsIn, sittingIn, Judged, judged, judgement}
-use Rattle.answering.specs.Sitting.{runOf, Feeds}
-use Rattle.answering.specs.Answers as answers
-use Rattle.answering.specs.Answers.{sheetOf, toldOf, StoreAfter, Answers}
-use Rattle.answering.specs.declared.SittingAnswer.{SittingAnswer}
-use Rattle.answering.specs.declared.SittingAnswer.the-variants as answer
-use Rattle.answering.proofs.Feeds.{Ran, whole, stopped}
-use Rattle.answering.proofs.Both.{file-told}
-use Rattle.answering.proofs.Asking.{alike, late, asked, never, number-same, told-right, sheet-right}
+use Rattle.judgement.specs.Judgement.{roomMade, openingOf, stringsIn, sittingIn, Judged, judged, judgement}
+use Rattle.judgement.specs.Sitting.{runOf, Feeds}
+use Rattle.judgement.specs.Answers as answers
+use Rattle.judgement.specs.Answers.{sheetOf, toldOf, StoreAfter, Answers}
+use Rattle.judgement.specs.declared.SittingAnswer.{SittingAnswer}
+use Rattle.judgement.specs.declared.SittingAnswer.the-variants as answer
+use Rattle.judgement.proofs.Feeds.{Ran, whole, stopped}
+use Rattle.judgement.proofs.Both.{file-told}
+use Rattle.judgement.proofs.Asking.{alike, late, asked, never, number-same, told-right, sheet-right}
 
 module _ (file store sheet : List ℕ) where
   from-judged : (x : Reading) → readOf file ≡ x → (j : Outcome Judged) → judged file (length sheet) x ≡ j → (r : SittingAnswer) (store′ sheet′ : List ℕ)

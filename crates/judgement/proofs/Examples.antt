@@ -14,8 +14,8 @@ use Rattle.replay.specs.Table.{verdictOf}
 use Rattle.printing.specs.Text.{ascii, spelled, lineOf}
 use Rattle.sitting_file.specs.Format as format
 use Rattle.sitting_file.specs.Format.{secondGroup, firstGroup, headerOf, symbolsFrom, bodyOf}
-use Rattle.answering.specs.Judgement.{sheetNumbers, stringsIn, judged, judgement}
-use Rattle.answering.specs.Prints.{linesText, textOf}
+use Rattle.judgement.specs.Judgement.{sheetNumbers, stringsIn, judged, judgement}
+use Rattle.judgement.specs.Prints.{linesText, textOf}
 
 -- "Input, in hex: `02 01 08 08 ..`"
 abbrev pub J3-file : List ℕ

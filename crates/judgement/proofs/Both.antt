@@ -16,10 +16,10 @@ use Rattle.rules.proofs.TrueCounts.{stands-fresh}
 use Rattle.calls.specs.Run.{Run, fedRun}
 use Rattle.sitting_file.specs.Samples.{InLimits, Holds, firstOf, secondOf}
 use Rattle.sitting_file.specs.declared.Shape.{Shape}
-use Rattle.answering.specs.Judgement.{roomMade, openingOf, stringsIn}
-use Rattle.answering.specs.Sitting.{seated, followedBy, fedBoth, runOf}
-use Rattle.answering.proofs.Growing.{held-none, pushed, held-pushed, pushed-is}
-use Rattle.answering.proofs.Feeds.{Sits, Ran, whole, stopped, run-told}
+use Rattle.judgement.specs.Judgement.{roomMade, openingOf, stringsIn}
+use Rattle.judgement.specs.Sitting.{seated, followedBy, fedBoth, runOf}
+use Rattle.judgement.proofs.Growing.{held-none, pushed, held-pushed, pushed-is}
+use Rattle.judgement.proofs.Feeds.{Sits, Ran, whole, stopped, run-told}
 
 -- ---- the opening
 module _ (shape : Shape) (l : InLimits shape) where
