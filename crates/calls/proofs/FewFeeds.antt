@@ -12,7 +12,7 @@ use Rattle.replay.specs.Table.{Outcome, refused, answered, NoneApplies}
 use Rattle.replay.specs.Machine.{asking, verdict, move, shift, settle, put, moved, tableOf, tableAt, askingTable, ownLines, answerOf}
 use Rattle.replay.proofs.Tables.{answers-none}
 use Rattle.rules.specs.Rules.{Answer, feed, rules, linesOf, nextOf}
-use Rattle.rules.specs.Feed.{fed}
+use Rattle.rules.specs.Feed.{afterFeed}
 use Rattle.calls.specs.Run.{feeding, fedRun, Runs}
 use Rattle.calls.specs.Run as run
 use Rattle.store.specs.Sound.{soundb}
@@ -37,7 +37,7 @@ module _ (d k a : ℕ) (ρ : Room Progress) where
   not-full (opened o p) h = leb-false longest (p .size (sampleOf k)) (h .1 .1 .1 .0)
 
   longer : (D : Desk Progress) → NoneApplies (askingTable rules d D (feed k a)) → sizeAt k (moved rules D (asking (feed k a))) ≡ suc (sizeAt k D)
-  unfolding sizeAt askingTable ownLines linesOf moved nextOf fed
+  unfolding sizeAt askingTable ownLines linesOf moved nextOf afterFeed
   longer closed h = let z : _≡_ {A = ℕ} 0 1 = ap one (sym (h .1 .0)) in absurd (omega arith)
   longer (opened o p) h = rw (same (sampleOf k)) (add-one (p .size (sampleOf k)))
 

@@ -7,7 +7,7 @@ use mathlib.Core.List.{List, [], _∷_}
 use lib.ListN.{length, drop}
 use Rattle.contexts.specs.Sitting.{Progress, sat}
 use Rattle.replay.specs.Room.{Desk, closed, opened, Room}
-use Rattle.replay.specs.Table.{Line, number, applies, Outcome, refused, answered, verdictOf}
+use Rattle.replay.specs.Table.{Line, lineNumber, applies, Outcome, refused, answered, verdictOf}
 use Rattle.replay.specs.Machine.{Call, atDesk, asking, noSuchDesk, askingTable, tableAt, tableOf, answerAt, answerOf, verdict, move, shift, settle}
 use Rattle.store.specs.Layout.{storeSize, room}
 use Rattle.store.specs.Sound.{soundb}
@@ -67,8 +67,8 @@ unfolding verdictOf
 judged [] x = by-rows x
 judged (l ∷ ls) x = go (applies l) (judged ls x)
   where
-    go : (b : Bool) → Told (verdictOf ls (reported x)) → Told (cond b (refused (number l)) (verdictOf ls (reported x)))
-    go true t = by-number (number l)
+    go : (b : Bool) → Told (verdictOf ls (reported x)) → Told (cond b (refused (lineNumber l)) (verdictOf ls (reported x)))
+    go true t = by-number (lineNumber l)
     go false t = t
 
 report-told : (ρ : Room Progress) (d sheet place : ℕ) → Told (verdict rules ρ (atDesk d (asking (reporting sheet place))))

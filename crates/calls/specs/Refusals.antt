@@ -43,9 +43,9 @@ roomOf (question.Contexts n) = answered (room n)
 roomOf (question.Refused why) = refused (refusalNumber why)
 
 -- a report's rows are those read from the sheet that it leaves, from row `place` on
-abbrev pub reportOf : ReportAnswer → ℕ → List ℕ → Outcome Answer
-reportOf (written.Rows n score) place sheet = answered (reported (record { rows = readRows n (drop (rowWidth * place) sheet); score = score }))
-reportOf (written.Refused why) place sheet = refused (refusalNumber why)
+abbrev pub writtenOf : ReportAnswer → ℕ → List ℕ → Outcome Answer
+writtenOf (written.Rows n score) place sheet = answered (reported (record { rows = readRows n (drop (rowWidth * place) sheet); score = score }))
+writtenOf (written.Refused why) place sheet = refused (refusalNumber why)
 
 -- "The answer is the shares of a"
 abbrev pub chartedOf : ChartAnswer → Outcome Answer

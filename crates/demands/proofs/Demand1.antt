@@ -5,7 +5,7 @@ use mathlib.Core.Bool.{Bool, true, false, cond, not}
 use mathlib.Core.List.{List}
 use lib.ListN.{length}
 use Rattle.numbers.proofs.Tests.{of-true}
-use Rattle.replay.specs.Table.{Outcome, refused, answered, verdictOf, rises}
+use Rattle.replay.specs.Table.{Outcome, refused, answered, verdictOf, inOrder}
 use Rattle.replay.specs.Machine.{opening, asking, closing, Call, atDesk, roomQuestion, tableOf, answerOf, verdict}
 use Rattle.replay.proofs.Tables.{no-refusal, refused-exactly, answered-exactly}
 use Rattle.replay.proofs.Refusals.{tables-rise}
@@ -47,7 +47,7 @@ by-table σ τ c o m = go (soundb σ) refl
     go false e = rw e (unsound σ τ c o e m)
 
 pub demand-1 : (σ τ : List ℕ) (c : Call rules) (o : Outcome Answer) → Does σ c o τ → Demand1 σ c o τ
-unfolding rises
+unfolding inOrder
 demand-1 σ τ c o m =
     let e = by-table σ τ c o m in
     record {

@@ -11,7 +11,7 @@ use Rattle.rules.specs.Feed.{countedFrom}
 use Rattle.printing.specs.declared.Head.{Head}
 use Rattle.sitting_file.specs.Samples.{firstOf, secondOf}
 use Rattle.sitting_file.specs.declared.Shape.{Shape}
-use Rattle.judgement.specs.Judgement.{openingOf, stringsIn, sittingIn, Judged, judgement}
+use Rattle.judgement.specs.Judgement.{openingOf, stringsIn, fileSitting, Judged, judgement}
 use Rattle.judgement.specs.Answers as answers
 use Rattle.judgement.specs.declared.SittingAnswer.the-variants as answer
 use Rattle.judgement.proofs.Texts.{stands}
@@ -32,10 +32,10 @@ never : {B : Type 0} {h : Head} {n : ℕ} → answer.Reported h ≡ answer.Refus
 never e = let z : _≡_ {A = ℕ} 0 1 = cc in absurd (omega arith)
 
 pub demand-of-program : DemandOfProgram
-unfolding answers.answerOf answers.sheetOf
+unfolding answers.answerFor answers.sheetLeft
 demand-of-program file store sheet store′ sheet′ head a = go (judgement file (length sheet)) refl (a .answer) (a .rows)
   where
-    go : (j : Outcome Judged) → judgement file (length sheet) ≡ j → answer.Reported head ≡ answers.answerOf j → sheet′ ≡ answers.sheetOf j sheet → OfItsFile file sheet head sheet′
+    go : (j : Outcome Judged) → judgement file (length sheet) ≡ j → answer.Reported head ≡ answers.answerFor j → sheet′ ≡ answers.sheetLeft j sheet → OfItsFile file sheet head sheet′
     go (refused n) e r s = never r
     go (answered x) e r s =
         let k = stands file (length sheet) x e in
@@ -44,7 +44,7 @@ demand-of-program file store sheet store′ sheet′ head a = go (judgement file
           shape = x .shape;
           accepted = k .accepted;
           report = x .report;
-          estimate = subst (JointEstimate (sittingIn file (x .shape))) (sym (k .own)) (joint-estimate (sittingIn file (x .shape)) (omega arith));
+          estimate = subst (JointEstimate (fileSitting file (x .shape))) (sym (k .own)) (joint-estimate (fileSitting file (x .shape)) (omega arith));
           head-is = same-head r;
           rows-are = s;
           true-counts = λ i t b.

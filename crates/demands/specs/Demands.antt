@@ -15,7 +15,7 @@ use Rattle.estimate.specs.Ties.{KeepsTies}
 use Rattle.rows.specs.Rows.{rowsOf}
 use Rattle.rows.specs.Members.{member, members, Increasing}
 use Rattle.replay.specs.Room.{Making, Opening}
-use Rattle.replay.specs.Table.{Line, _when_, Outcome, refused, answered, NoneApplies, First, rises}
+use Rattle.replay.specs.Table.{Line, _when_, Outcome, refused, answered, NoneApplies, First, inOrder}
 use Rattle.replay.specs.Machine.{opening, asking, Call, atDesk, tableOf, answerOf}
 use Rattle.replay.specs.Serial.{Told, Course, calls, answers, struck, sittings, serial, callsAt, openings}
 use Rattle.replay.specs.Alone.{latest, asks}
@@ -40,7 +40,7 @@ tableOn σ c = 1 when not (soundb σ) ∷ tableOf rules (meaning σ) c
 pub record Demand1 (σ : List ℕ) (c : Call rules) (o : Outcome Answer) (τ : List ℕ) : Type 0 where
   pub refused-exactly : (n : ℕ) → (o ≡ refused n) ↔ First (tableOn σ c) n
   pub answered-exactly : (o ≡ answered (answerOf rules (meaning σ) c)) ↔ NoneApplies (tableOn σ c)
-  pub numbers-rise : T (rises 1 (tableOn σ c))
+  pub numbers-rise : T (inOrder 1 (tableOn σ c))
   pub refused-stays : (n : ℕ) → o ≡ refused n → τ ≡ σ
 
 -- a refused report leaves the sheet that was lent to it

@@ -13,7 +13,7 @@ use Rattle.sitting_file.specs.Format.{readOf}
 use Rattle.sitting_file.specs.Samples.{firstOf, secondOf}
 use Rattle.sitting_file.specs.declared.Shape.{Shape}
 use Rattle.sitting_file.specs.declared.Reading.the-variants.{Accepted}
-use Rattle.judgement.specs.Judgement.{openingOf, sittingIn}
+use Rattle.judgement.specs.Judgement.{openingOf, fileSitting}
 use Rattle.judgement.specs.Answers.{headed, Answers}
 use Rattle.judgement.specs.declared.SittingAnswer.the-variants as answer
 use Rattle.demands.specs.Demands.{JointEstimate}
@@ -28,11 +28,11 @@ pub record OfItsFile (file sheet : List ℕ) (head : Head) (sheet′ : List ℕ)
   pub shape : Shape
   pub accepted : readOf file ≡ Accepted shape
   pub report : Reported
-  pub estimate : JointEstimate (sittingIn file shape) report
+  pub estimate : JointEstimate (fileSitting file shape) report
   pub head-is : head ≡ headed shape (length (report .rows)) (report .score)
   pub rows-are : sheet′ ≡ withRows 0 (report .rows) sheet
   -- "every frequency the true count": N(s,a) by place, sample and context oldest first
-  pub true-counts : (i : Sample) (s : List ℕ) (a : ℕ) → sittingIn file shape .count i s a ≡ N-placed (countedFrom (openingOf shape)) (sampleIn file shape i) (reverse s) a
+  pub true-counts : (i : Sample) (s : List ℕ) (a : ℕ) → fileSitting file shape .count i s a ≡ N-placed (countedFrom (openingOf shape)) (sampleIn file shape i) (reverse s) a
 
 -- every answer that the program's promise allows is one, where it is no refusal
 abbrev pub DemandOfProgram : Type 0

@@ -9,18 +9,18 @@ use Rattle.replay.specs.Machine.{opening, asking, closing, Call, atDesk, roomQu
 use Rattle.store.specs.Making.{Makes}
 use Rattle.store.specs.declared.Made.the-variants.{Done}
 use Rattle.rules.specs.Rules.{Answer, feed, reporting, charting, rules}
-use Rattle.calls.specs.Refusals.{reportOf}
+use Rattle.calls.specs.Refusals.{writtenOf}
 use Rattle.calls.specs.declared.ReportAnswer.{ReportAnswer}
 use Rattle.calls.specs.Promises.{Moves, Asks, Reports}
 
 -- a report, with the sheet that was lent to it before and after: it names how many numbers the sheet has, and its rows are those read from the
--- sheet after (`reportOf`)
+-- sheet after (`writtenOf`)
 pub record OnSheet (σ : List ℕ) (d sheet place : ℕ) (o : Outcome Answer) (τ : List ℕ) : Type 0 where
   pub before : List ℕ
   pub after : List ℕ
   pub named : length before ≡ sheet
   pub answer : ReportAnswer
-  pub read : o ≡ reportOf answer place after
+  pub read : o ≡ writtenOf answer place after
   pub reports : Reports σ d place o before after
   pub only-read : τ ≡ σ
 

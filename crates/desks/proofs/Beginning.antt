@@ -32,7 +32,7 @@ use Rattle.store.specs.Meaning.{progressAt, meaning}
 use Rattle.store.proofs.Desks.{stands-desk}
 use Rattle.store.proofs.Passing.{passed, passes}
 use Rattle.store.proofs.Fitting.{desk-opened, desk-closed}
-use Rattle.rules.specs.Feed.{fresh}
+use Rattle.rules.specs.Feed.{emptyProgress}
 use Rattle.rules.specs.Rules.{done, rules}
 use Rattle.calls.specs.Promises.{Moves}
 use Rattle.calls.proofs.Settled.{moves-done}
@@ -76,18 +76,18 @@ module _ (s t : List ℕ) (d : ℕ) (o : Opening) (h : soundb s ≡ true) (n : O
     | no q ↦ rw (is-false (isContext (symbolsAt t d) (depthAt t d) c) q)
   ]
 
-  progress-fresh : progressAt t d ≡ fresh o
+  progress-fresh : progressAt t d ≡ emptyProgress o
   progress-fresh =
-      let p : progressAt t d .size ≡ fresh o .size = fun-ext (x .empty) in
-      let q : progressAt t d .recent ≡ fresh o .recent = fun-ext (λ i. ap (λ (n : ℕ). take n (slotsAt t d i)) (none i)) in
-      let r : progressAt t d .count ≡ fresh o .count = fun-ext (λ i. fun-ext (λ c. fun-ext (λ a. no-count i c a))) in
+      let p : progressAt t d .size ≡ emptyProgress o .size = fun-ext (x .empty) in
+      let q : progressAt t d .recent ≡ emptyProgress o .recent = fun-ext (λ i. ap (λ (n : ℕ). take n (slotsAt t d i)) (none i)) in
+      let r : progressAt t d .count ≡ emptyProgress o .count = fun-ext (λ i. fun-ext (λ c. fun-ext (λ a. no-count i c a))) in
       λ j. record { size = p j; recent = q j; count = r j }
     where
       none : (i : Sample) → min (sizeAt t d i) (depthAt t d) ≡ 0
       none i = omega (arith, x .empty i)
 
-  meaning-opened : meaning t ≡ with s t d apart (opened o (fresh o))
-  meaning-opened = meaning-with s t d apart (opened o (fresh o)) (desk-opened t d now-open ∙ ap₂ opened (x .named) progress-fresh)
+  meaning-opened : meaning t ≡ with s t d apart (opened o (emptyProgress o))
+  meaning-opened = meaning-with s t d apart (opened o (emptyProgress o)) (desk-opened t d now-open ∙ ap₂ opened (x .named) progress-fresh)
 
   -- ---- that the store is sound
 
@@ -129,7 +129,7 @@ module _ (s t : List ℕ) (d : ℕ) (o : Opening) (h : soundb s ≡ true) (n : O
         up = subst (λ (rs : List (List ℕ)). T (rises 0 (keys rs))) (sym (x .records-same)) (p .up);
         each = subst (λ (rs : List (List ℕ)). T (all (recordOk t (recordsIn t)) rs)) (sym (x .records-same)) each-record;
         each-desk = every-of desks (deskOk t (recordsIn t)) each-desk;
-        reserves = reserves-with s t d apart (opened o (fresh o)) meaning-opened (g .ready .desk) (omega (arith, p .reserves, g .fits, left-is s));
+        reserves = reserves-with s t d apart (opened o (emptyProgress o)) meaning-opened (g .ready .desk) (omega (arith, p .reserves, g .fits, left-is s));
       })
 
   moved-opened : meaning t ≡ shift rules (meaning s) (atDesk d (opening o))

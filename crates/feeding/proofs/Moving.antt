@@ -46,14 +46,14 @@ module _ (s t : List ℕ) (d : ℕ) (i : Sample) (a : ℕ) (f : FedStore s t d i
       λ j. record { symbols = A j; depth = D j; reserve = r j }
 
   abbrev next : Progress
-  next = rule.fed (openingAt s d) i a (progressAt s d)
+  next = rule.afterFeed (openingAt s d) i a (progressAt s d)
 
   size-next : (j : Sample) → progressAt t d .size j ≡ next .size j
-  unfolding rule.fed
+  unfolding rule.afterFeed
   size-next j = f .sizes j
 
   recent-next : (j : Sample) → progressAt t d .recent j ≡ next .recent j
-  unfolding rule.fed
+  unfolding rule.afterFeed
   recent-next j =
       rw (f .sizes j, f .limits-same 2 (omega arith), f .slots j) (go (sameSample j i))
     where
@@ -68,7 +68,7 @@ module _ (s t : List ℕ) (d : ℕ) (i : Sample) (a : ℕ) (f : FedStore s t d i
       (context-take (symbolsAt s d) (depthAt s d) (length c) (recentAt s d i) (recent-context s (p .sound) d (p .at-open) i))))
 
   count-next : (j : Sample) (c : List ℕ) (b : ℕ) → progressAt t d .count j c b ≡ next .count j c b
-  unfolding rule.fed
+  unfolding rule.afterFeed
   count-next j c b =
       rw (context-same s t d i a f d (p .at-open .desk) c, le-leb 0 (sizeAt s d i) (omega arith)) (go (T? (isContext (symbolsAt s d) (depthAt s d) c)))
     where

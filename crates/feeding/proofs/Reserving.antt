@@ -50,10 +50,10 @@ one-in second x y false = ap (ltb 0) (let e : x + 0 + (y + 0) ≡ x + y = omega 
 module _ (s : List ℕ) (h : soundb s ≡ true) (d : ℕ) (o : Open s d) (i : Sample) (a : ℕ) (l : a < symbolsAt s d) where
   -- the desk's sitting after the feed
   abbrev after : Sitting
-  after = sat (symbolsAt s d) (depthAt s d) (rule.fed (openingAt s d) i a (progressAt s d))
+  after = sat (symbolsAt s d) (depthAt s d) (rule.afterFeed (openingAt s d) i a (progressAt s d))
 
   total-after : (j : Sample) (c : List ℕ) → totalIn after j c ≡ totalIn (sittingAt s d) j c + one (sameSample j i && begins c (recentAt s d i))
-  unfolding rule.fed
+  unfolding rule.afterFeed
   total-after j c =
       sum-cong (symbolsAt s d) {g = λ b. progressAt s d .count j c b + one ((sameSample j i && begins c (recentAt s d i)) && eqb b a)}
       (λ b m. rw (le-leb 0 (sizeAt s d i) (omega arith), regroup (sameSample j i) (begins c (recentAt s d i)) (eqb a b), eqb-sym a b))

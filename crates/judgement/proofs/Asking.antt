@@ -11,21 +11,21 @@ use Rattle.contexts.specs.Sitting.{first, second, Progress}
 use Rattle.numbers.specs.Limits.{rowWidth}
 use Rattle.rows.proofs.Written.{rows-read}
 use Rattle.replay.specs.Room.{Room}
-use Rattle.replay.specs.Table.{Line, _when_, number, applies, Outcome, refused, answered, verdictOf}
+use Rattle.replay.specs.Table.{Line, _when_, lineNumber, applies, Outcome, refused, answered, verdictOf}
 use Rattle.replay.specs.Machine.{asking, atDesk, verdict, tableOf, tableAt, askingTable, ownLines, answerOf, answerAt}
 use Rattle.rules.specs.Report.{Reported, report, doesNotFit, someEmpty}
 use Rattle.rules.specs.Rules.{Answer, reporting, reported, rules, linesOf}
 use Rattle.rules.specs.Rules as sitting
 use Rattle.rules.proofs.OwnReport.{own-report}
-use Rattle.calls.specs.Refusals.{reportOf}
+use Rattle.calls.specs.Refusals.{writtenOf}
 use Rattle.calls.specs.Promises.{Reports}
 use Rattle.calls.specs.declared.ReportAnswer.{ReportAnswer}
 use Rattle.calls.specs.declared.ReportAnswer.the-variants as written
 use Rattle.sitting_file.specs.Samples.{Holds, firstOf, secondOf}
 use Rattle.sitting_file.specs.declared.Shape.{Shape}
-use Rattle.judgement.specs.Judgement.{openingOf, stringsIn, sittingIn, emptySample, Judged}
+use Rattle.judgement.specs.Judgement.{openingOf, stringsIn, fileSitting, emptySample, Judged}
 use Rattle.judgement.specs.Answers as answers
-use Rattle.judgement.specs.Answers.{headed, sheetOf, toldOf}
+use Rattle.judgement.specs.Answers.{headed, sheetLeft, toldOf}
 use Rattle.judgement.specs.declared.SittingAnswer.{SittingAnswer}
 use Rattle.judgement.specs.declared.SittingAnswer.the-variants as answer
 use Rattle.judgement.proofs.Feeds.{Sits}
@@ -40,17 +40,17 @@ unfolding verdictOf
 alike x y [] = by-answer
 alike {A} {B} x y (l ∷ ls) = go (applies l) (alike x y ls)
   where
-    go : (b : Bool) → Alike x y (verdictOf ls x) (verdictOf ls y) → Alike x y (cond b (refused (number l)) (verdictOf ls x)) (cond b (refused (number l)) (verdictOf ls y))
-    go true h = by-number (number l)
+    go : (b : Bool) → Alike x y (verdictOf ls x) (verdictOf ls y) → Alike x y (cond b (refused (lineNumber l)) (verdictOf ls x)) (cond b (refused (lineNumber l)) (verdictOf ls y))
+    go true h = by-number (lineNumber l)
     go false h = h
 
 module _ (file : List ℕ) (shape : Shape) (h : Holds file shape) (sheet : ℕ) where
   abbrev its : Reported
-  its = report (sittingIn file shape)
+  its = report (fileSitting file shape)
 
   -- 11 and 12
   abbrev pub late : List Line
-  late = 11 when emptySample shape ∷ 12 when doesNotFit sheet 0 (sittingIn file shape) ∷ []
+  late = 11 when emptySample shape ∷ 12 when doesNotFit sheet 0 (fileSitting file shape) ∷ []
 
   sizes : (p : Progress) (n m : ℕ) → p .size first ≡ n → p .size second ≡ m → someEmpty p ≡ (eqb n 0 || eqb m 0)
   sizes p n m e f = rw (e, f)
@@ -83,8 +83,8 @@ module _ (shape : Shape) (its : Reported) (store sheet sheet′ : List ℕ) wher
   abbrev mine : Judged
   mine = record { shape = shape; report = its }
 
-  pub told-right : (r : ReportAnswer) (o : Outcome Answer) (j : Outcome Judged) → Alike (reported its) mine o j → reportOf r 0 sheet′ ≡ o → toldOf shape r ≡ answers.answerOf j
-  unfolding answers.answerOf
+  pub told-right : (r : ReportAnswer) (o : Outcome Answer) (j : Outcome Judged) → Alike (reported its) mine o j → writtenOf r 0 sheet′ ≡ o → toldOf shape r ≡ answers.answerFor j
+  unfolding answers.answerFor
   told-right (written.Rows n z) o j (by-number k) e = never e
   told-right (written.Rows n z) o j by-answer e =
       let f = reported-same e in
@@ -92,7 +92,7 @@ module _ (shape : Shape) (its : Reported) (store sheet sheet′ : List ℕ) wher
   told-right (written.Refused why) o j (by-number k) e = ap {B = SittingAnswer} (λ (n : ℕ). answer.Refused n) (number-same e)
   told-right (written.Refused why) o j by-answer e = never (sym e)
 
-  pub sheet-right : (o out : Outcome Answer) (j : Outcome Judged) → Alike (reported its) mine o j → Reports store 0 0 out sheet sheet′ → out ≡ o → sheet′ ≡ sheetOf j sheet
-  unfolding sheetOf
+  pub sheet-right : (o out : Outcome Answer) (j : Outcome Judged) → Alike (reported its) mine o j → Reports store 0 0 out sheet sheet′ → out ≡ o → sheet′ ≡ sheetLeft j sheet
+  unfolding sheetLeft
   sheet-right o out j (by-number k) p e = p .refused-stays k e
   sheet-right o out j by-answer p e = p .written its e

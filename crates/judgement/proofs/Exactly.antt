@@ -11,27 +11,27 @@ use Rattle.rules.specs.Report.{report}
 use Rattle.sitting_file.specs.Format.{readOf}
 use Rattle.sitting_file.specs.declared.Shape.{Shape}
 use Rattle.sitting_file.specs.declared.Reading.the-variants.{Accepted}
-use Rattle.judgement.specs.Judgement.{sittingIn, linesOf, Judged, judged}
-use Rattle.judgement.specs.Answers.{answerOf, Answers}
+use Rattle.judgement.specs.Judgement.{fileSitting, fileLines, Judged, judged}
+use Rattle.judgement.specs.Answers.{answerFor, Answers}
 use Rattle.judgement.specs.declared.SittingAnswer.{SittingAnswer}
 use Rattle.judgement.specs.declared.SittingAnswer.the-variants.{Refused}
 
-refusal-of : (j : Outcome Judged) (n : ℕ) → answerOf j ≡ Refused n → j ≡ refused n
-unfolding answerOf
+refusal-of : (j : Outcome Judged) (n : ℕ) → answerFor j ≡ Refused n → j ≡ refused n
+unfolding answerFor
 refusal-of (refused k) n e = let same : k ≡ n = cc in ap refused same
 refusal-of (answered x) n e = let z : _≡_ {A = ℕ} 0 1 = cc in absurd (omega arith)
 
 module _ (file store sheet store′ sheet′ : List ℕ) (r : SittingAnswer) (a : Answers file store sheet r store′ sheet′) (shape : Shape) (e : readOf file ≡ Accepted shape) where
   abbrev mine : Judged
-  mine = record { shape = shape; report = report (sittingIn file shape) }
+  mine = record { shape = shape; report = report (fileSitting file shape) }
 
-  as-told : r ≡ answerOf (verdictOf (linesOf file shape (length sheet)) mine)
+  as-told : r ≡ answerFor (verdictOf (fileLines file shape (length sheet)) mine)
   unfolding judged
-  as-told = a .answer ∙ ap answerOf (ap (judged file (length sheet)) e)
+  as-told = a .answer ∙ ap answerFor (ap (judged file (length sheet)) e)
 
   -- THEOREM. 10, 11 and 12 exactly when that is the first line that applies
-  pub refuses-exactly : (n : ℕ) → (r ≡ Refused n) ↔ First (linesOf file shape (length sheet)) n
-  unfolding answerOf
+  pub refuses-exactly : (n : ℕ) → (r ≡ Refused n) ↔ First (fileLines file shape (length sheet)) n
+  unfolding answerFor
   refuses-exactly n =
-      let t = refused-exactly (linesOf file shape (length sheet)) mine n in
-      (λ f. t .0 (refusal-of _ n (sym as-told ∙ f)), λ f. as-told ∙ ap answerOf (t .1 f))
+      let t = refused-exactly (fileLines file shape (length sheet)) mine n in
+      (λ f. t .0 (refusal-of _ n (sym as-told ∙ f)), λ f. as-told ∙ ap answerFor (t .1 f))

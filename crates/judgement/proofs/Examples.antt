@@ -22,7 +22,7 @@ abbrev pub J3-file : List ℕ
 J3-file = 2 ∷ 1 ∷ 8 ∷ 8 ∷ 0 ∷ 1 ∷ 0 ∷ 1 ∷ 0 ∷ 1 ∷ 0 ∷ 1 ∷ 0 ∷ 0 ∷ 1 ∷ 0 ∷ 0 ∷ 1 ∷ 0 ∷ 0 ∷ []
 
 pub J3-text : textOf (judgement J3-file sheetNumbers) ≡ ascii "2 1 8 8 3 -20176\n1 1 0 0 4\n2 1 0 3 2\n0 1 1 5 0\n"
-unfolding format.judged secondGroup firstGroup headerOf symbolsFrom bodyOf stringsIn judged verdictOf L sum codeOf N total sumℤ totalℤ spread best joint tree estimate gather members linesText textOf ascii spelled lineOf
+unfolding format.judgedNumber secondGroup firstGroup headerOf symbolsFrom bodyOf stringsIn judged verdictOf L sum codeOf N total sumℤ totalℤ spread best joint tree estimate gather members linesText textOf ascii spelled lineOf
 J3-text = refl
 
 -- a file that ends early
@@ -32,5 +32,5 @@ empty-text = refl
 
 -- an empty sample
 pub no-sample-text : textOf (judgement (2 ∷ 1 ∷ 0 ∷ 1 ∷ 0 ∷ []) sheetNumbers) ≡ ascii "refused 11\n"
-unfolding format.judged firstGroup headerOf symbolsFrom bodyOf stringsIn judged verdictOf sum N total textOf ascii spelled lineOf
+unfolding format.judgedNumber firstGroup headerOf symbolsFrom bodyOf stringsIn judged verdictOf sum N total textOf ascii spelled lineOf
 no-sample-text = refl

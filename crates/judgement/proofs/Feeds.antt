@@ -16,7 +16,7 @@ use Rattle.replay.specs.Table.{refused, answered, verdictOf}
 use Rattle.replay.specs.Machine.{verdict, move, shift, settle, put, moved, tableOf, tableAt, askingTable, ownLines, answerOf, answerAt}
 use Rattle.rules.specs.Rules.{done, rules, linesOf, nextOf}
 use Rattle.rules.specs.Rules as sitting
-use Rattle.rules.specs.Feed.{fed, pastReservation}
+use Rattle.rules.specs.Feed.{afterFeed, pastReservation}
 use Rattle.rules.specs.Strings.{push, sittingFor, StandsFor}
 use Rattle.rules.proofs.TrueCounts.{stands-fed}
 use Rattle.rules.proofs.OwnReport.{many-same}
@@ -42,7 +42,7 @@ module _ (o : Opening) (k a : ℕ) (ρ : Room Progress) (p : Progress) (e : ρ .
   unfolding verdict verdictOf tableOf tableAt askingTable ownLines linesOf answerOf answerAt sitting.answerOf
   feed-told b f = rw (e, known, lt-leb (o .symbols) a small, lt-leb longest (p .size (sampleOf k)) short, f)
 
-  feed-moved : pastReservation o p k a ≡ false → move rules ρ (feeding 0 k a) .at 0 ≡ opened o (fed o (sampleOf k) a p)
+  feed-moved : pastReservation o p k a ≡ false → move rules ρ (feeding 0 k a) .at 0 ≡ opened o (afterFeed o (sampleOf k) a p)
   unfolding move settle shift put moved nextOf
   feed-moved f = rw (feed-told false f, e)
 
@@ -55,7 +55,7 @@ module _ (o : Opening) (k a : ℕ) (w : Sample → List ℕ) (ρ : Room Progress
   room-for = let e = s .stands .sizes (sampleOf k) in omega arith
 
   held-then : pastReservation o p k a ≡ ltb (o .reserve) (contextsHeld (sittingFor o (push (sampleOf k) a w)))
-  held-then = ap (ltb (o .reserve)) (many-same o (push (sampleOf k) a w) (fed o (sampleOf k) a p) (stands-fed o w p (s .stands) (sampleOf k) a small))
+  held-then = ap (ltb (o .reserve)) (many-same o (push (sampleOf k) a w) (afterFeed o (sampleOf k) a p) (stands-fed o w p (s .stands) (sampleOf k) a small))
 
   feed-past : o .reserve < contextsHeld (sittingFor o (push (sampleOf k) a w)) → verdict rules ρ (feeding 0 k a) ≡ refused 10
   feed-past h = feed-told o k a ρ p (s .at-desk) known small room-for true (held-then ∙ lt-ltb _ _ h)
@@ -65,7 +65,7 @@ module _ (o : Opening) (k a : ℕ) (w : Sample → List ℕ) (ρ : Room Progress
 
   feed-sits : contextsHeld (sittingFor o (push (sampleOf k) a w)) ≤ o .reserve → Sits o (push (sampleOf k) a w) (move rules ρ (feeding 0 k a))
   feed-sits h = record {
-    progress = fed o (sampleOf k) a p;
+    progress = afterFeed o (sampleOf k) a p;
     at-desk = feed-moved o k a ρ p (s .at-desk) known small room-for (held-then ∙ le-ltb _ _ h);
     stands = stands-fed o w p (s .stands) (sampleOf k) a small;
   }

@@ -10,7 +10,7 @@ use Rattle.replay.specs.Table.{Line, Outcome, refused, answered, verdictOf}
 use Rattle.replay.specs.Machine.{asking, atDesk, verdict, answerOf}
 use Rattle.rules.specs.Report.{Reported, report}
 use Rattle.rules.specs.Rules.{done, reporting, reported, rules}
-use Rattle.calls.specs.Refusals.{refusalNumber, reportOf, endingOf}
+use Rattle.calls.specs.Refusals.{refusalNumber, writtenOf, endingOf}
 use Rattle.calls.specs.Promises.{Reports}
 use Rattle.calls.specs.declared.Refusal.{Refusal}
 use Rattle.calls.specs.declared.ReportAnswer.{ReportAnswer}
@@ -23,10 +23,10 @@ use Rattle.sitting_file.specs.declared.Shape.{Shape}
 use Rattle.sitting_file.specs.declared.Reading.{Reading}
 use Rattle.sitting_file.specs.declared.Reading.the-variants as reading
 use Rattle.sitting_file.proofs.AcceptedFile.{accepted-holds}
-use Rattle.judgement.specs.Judgement.{roomMade, openingOf, stringsIn, sittingIn, Judged, judged, judgement}
+use Rattle.judgement.specs.Judgement.{roomMade, openingOf, stringsIn, fileSitting, Judged, judged, judgement}
 use Rattle.judgement.specs.Sitting.{runOf, Feeds}
 use Rattle.judgement.specs.Answers as answers
-use Rattle.judgement.specs.Answers.{sheetOf, toldOf, StoreAfter, Answers}
+use Rattle.judgement.specs.Answers.{sheetLeft, toldOf, StoreAfter, Answers}
 use Rattle.judgement.specs.declared.SittingAnswer.{SittingAnswer}
 use Rattle.judgement.specs.declared.SittingAnswer.the-variants as answer
 use Rattle.judgement.proofs.Feeds.{Ran, whole, stopped}
@@ -35,37 +35,37 @@ use Rattle.judgement.proofs.Asking.{alike, late, asked, never, number-s
 
 module _ (file store sheet : List ℕ) where
   from-judged : (x : Reading) → readOf file ≡ x → (j : Outcome Judged) → judged file (length sheet) x ≡ j → (r : SittingAnswer) (store′ sheet′ : List ℕ)
-      → r ≡ answers.answerOf j → sheet′ ≡ sheetOf j sheet → StoreAfter file x store store′ → Answers file store sheet r store′ sheet′
+      → r ≡ answers.answerFor j → sheet′ ≡ sheetLeft j sheet → StoreAfter file x store store′ → Answers file store sheet r store′ sheet′
   from-judged x e j f r store′ sheet′ a s n =
       let g : judgement file (length sheet) ≡ j = ap (judged file (length sheet)) e ∙ f in
       record {
-        answer = a ∙ sym (ap answers.answerOf g);
-        rows = s ∙ sym (ap (λ (k : Outcome Judged). sheetOf k sheet) g);
+        answer = a ∙ sym (ap answers.answerFor g);
+        rows = s ∙ sym (ap (λ (k : Outcome Judged). sheetLeft k sheet) g);
         numbers = subst (λ (y : Reading). StoreAfter file y store store′) (sym e) n;
       }
 
   -- the reader refuses
   pub reader-refuses : (why : fault.Refusal) → readOf file ≡ reading.Refused why → (r : ℕ) → r ≡ format.refusalNumber why → Answers file store sheet (answer.Refused r) store sheet
-  unfolding judged answers.answerOf sheetOf
+  unfolding judged answers.answerFor sheetLeft
   reader-refuses why e r f = from-judged (reading.Refused why) e (refused (format.refusalNumber why)) refl (answer.Refused r) store sheet (ap {B = SittingAnswer} (λ (n : ℕ). answer.Refused n) f) refl refl
 
   module _ (shape : Shape) (e : readOf file ≡ reading.Accepted shape) where
     abbrev its-lines : List Line
     its-lines = late file shape (accepted-holds file shape e) (length sheet)
 
-    past-judged : roomMade < contextsHeld (sittingIn file shape) → judged file (length sheet) (reading.Accepted shape) ≡ refused 10
+    past-judged : roomMade < contextsHeld (fileSitting file shape) → judged file (length sheet) (reading.Accepted shape) ≡ refused 10
     unfolding judged verdictOf
-    past-judged h = rw (lt-ltb roomMade (contextsHeld (sittingIn file shape)) h)
+    past-judged h = rw (lt-ltb roomMade (contextsHeld (fileSitting file shape)) h)
 
-    within-judged : contextsHeld (sittingIn file shape) ≤ roomMade
-        → judged file (length sheet) (reading.Accepted shape) ≡ verdictOf its-lines (record { shape = shape; report = report (sittingIn file shape) })
+    within-judged : contextsHeld (fileSitting file shape) ≤ roomMade
+        → judged file (length sheet) (reading.Accepted shape) ≡ verdictOf its-lines (record { shape = shape; report = report (fileSitting file shape) })
     unfolding judged verdictOf
-    within-judged h = rw (le-ltb roomMade (contextsHeld (sittingIn file shape)) h)
+    within-judged h = rw (le-ltb roomMade (contextsHeld (fileSitting file shape)) h)
 
     -- a feed is refused
     pub feed-refused : (x : Ending) (why : Refusal) (n : ℕ) (store′ : List ℕ) → x ≡ ending.Refused why → n ≡ refusalNumber why → Feeds (endingOf x) store′ (runOf file shape)
         → Answers file store sheet (answer.Refused n) store′ sheet
-    unfolding answers.answerOf sheetOf
+    unfolding answers.answerFor sheetLeft
     feed-refused x why n store′ q r f = go (file-told file shape (accepted-holds file shape e))
       where
         ended : runOf file shape .ending ≡ refused n
@@ -79,14 +79,14 @@ module _ (file store sheet : List ℕ) where
 
     -- both samples are fed, and the report is asked for
     pub report-told : (x : Ending) (r : ReportAnswer) (t : SittingAnswer) (store′ sheet′ : List ℕ) → x ≡ ending.Whole → t ≡ toldOf shape r → Feeds (endingOf x) store′ (runOf file shape)
-        → Reports store′ 0 0 (reportOf r 0 sheet′) sheet sheet′ → Answers file store sheet t store′ sheet′
+        → Reports store′ 0 0 (writtenOf r 0 sheet′) sheet sheet′ → Answers file store sheet t store′ sheet′
     report-told x r t store′ sheet′ q g f p = go (file-told file shape (accepted-holds file shape e))
       where
         ended : runOf file shape .ending ≡ answered done
         ended = sym (f .ends) ∙ ap endingOf q
 
         its : Reported
-        its = report (sittingIn file shape)
+        its = report (fileSitting file shape)
 
         mine : Judged
         mine = record { shape = shape; report = its }
@@ -95,7 +95,7 @@ module _ (file store sheet : List ℕ) where
         go (stopped past d) = never (sym ended ∙ d)
         go (whole fits d s) =
             let same = alike (reported its) mine its-lines in
-            let asks : reportOf r 0 sheet′ ≡ verdictOf its-lines (reported its) =
+            let asks : writtenOf r 0 sheet′ ≡ verdictOf its-lines (reported its) =
             p .asks .answers (f .means .sound)
             ∙ ap (λ (ρ : Room Progress). verdict rules ρ (atDesk 0 (asking (reporting (length sheet) 0)))) (f .means .room)
             ∙ asked file shape (accepted-holds file shape e) (length sheet) (runOf file shape .room) s in

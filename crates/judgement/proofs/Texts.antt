@@ -21,8 +21,8 @@ use Rattle.sitting_file.specs.Samples.{InLimits}
 use Rattle.sitting_file.specs.declared.Reading.{Reading}
 use Rattle.sitting_file.specs.declared.Reading.the-variants as reading
 use Rattle.sitting_file.proofs.AcceptedFile.{accepted-holds}
-use Rattle.judgement.specs.Judgement.{sheetNumbers, sittingIn, linesOf, Judged, judged, judgement}
-use Rattle.judgement.specs.Answers.{answerOf, sheetOf, Answers}
+use Rattle.judgement.specs.Judgement.{sheetNumbers, fileSitting, fileLines, Judged, judged, judgement}
+use Rattle.judgement.specs.Answers.{answerFor, sheetLeft, Answers}
 use Rattle.judgement.specs.Prints.{linesText, textOf, CanPrint, textFrom, Prints}
 use Rattle.judgement.specs.declared.SittingAnswer.{SittingAnswer}
 
@@ -44,7 +44,7 @@ rows-long (r ∷ rs) f = omega (arith, f .0 .counts, rows-long rs (f .1), length
 pub record Stands (file : List ℕ) (sheet : ℕ) (x : Judged) : Type 0 where
   pub accepted : readOf file ≡ reading.Accepted (x .shape)
   pub limits : InLimits (x .shape)
-  pub own : x .report ≡ report (sittingIn file (x .shape))
+  pub own : x .report ≡ report (fileSitting file (x .shape))
   pub fits : length (x .report .rows) ≤ sheet / rowWidth
 
 pub stands : (file : List ℕ) (sheet : ℕ) (x : Judged) → judgement file sheet ≡ answered x → Stands file sheet x
@@ -54,8 +54,8 @@ stands file sheet x e = go (readOf file) refl e
     go : (y : Reading) → readOf file ≡ y → judged file sheet y ≡ answered x → Stands file sheet x
     go (reading.Refused why) r e = let z : _≡_ {A = ℕ} 0 1 = cc in absurd (omega arith)
     go (reading.Accepted shape) r e =
-        let n = answers-none (linesOf file shape sheet) (record { shape = shape; report = report (sittingIn file shape) }) x e in
-        let f = ltb-false (sheet / rowWidth) (0 + length (reportOf (sittingIn file shape))) (n .0 .1 .1 .0) in
+        let n = answers-none (fileLines file shape sheet) (record { shape = shape; report = report (fileSitting file shape) }) x e in
+        let f = ltb-false (sheet / rowWidth) (0 + length (reportOf (fileSitting file shape))) (n .0 .1 .1 .0) in
         subst (Stands file sheet) (n .1) (record { accepted = r; limits = accepted-holds file shape r .limits; own = refl; fits = omega arith })
 
 module _ (file store sheet store′ sheet′ : List ℕ) (r : SittingAnswer) (a : Answers file store sheet r store′ sheet′) where
@@ -64,15 +64,15 @@ module _ (file store sheet store′ sheet′ : List ℕ) (r : SittingAnswer) (a 
 
   fitting : (x : Judged) → Stands file (length sheet) x → AllFit (x .report .rows)
   fitting x s =
-      let y = sittingIn file (x .shape) in
+      let y = fileSitting file (x .shape) in
       let l = s .limits in
       subst (λ (q : Reported). AllFit (q .rows)) (sym (s .own)) (rows-fit y (estimateOf y) (l .alphabet-high) (l .depth-high))
 
   length-kept : length sheet′ ≡ length sheet
-  unfolding sheetOf
+  unfolding sheetLeft
   length-kept = ap length (a .rows) ∙ go its refl
     where
-      go : (j : Outcome Judged) → its ≡ j → length (sheetOf j sheet) ≡ length sheet
+      go : (j : Outcome Judged) → its ≡ j → length (sheetLeft j sheet) ≡ length sheet
       go (refused k) e = refl
       go (answered x) e =
           let s = stands file (length sheet) x e in
@@ -82,10 +82,10 @@ module _ (file store sheet store′ sheet′ : List ℕ) (r : SittingAnswer) (a 
 
   -- a sheet of 512 rows
   pub can-print : length sheet′ ≡ sheetNumbers → CanPrint r sheet′
-  unfolding answerOf
+  unfolding answerFor
   can-print n = subst (λ (q : SittingAnswer). CanPrint q sheet′) (sym (a .answer)) (go its refl)
     where
-      go : (j : Outcome Judged) → its ≡ j → CanPrint (answerOf j) sheet′
+      go : (j : Outcome Judged) → its ≡ j → CanPrint (answerFor j) sheet′
       go (refused k) e = tt
       go (answered x) e =
           let s = stands file (length sheet) x e in
@@ -94,10 +94,10 @@ module _ (file store sheet store′ sheet′ : List ℕ) (r : SittingAnswer) (a 
           record { alphabet = s .limits .alphabet-high; few = omega arith; whole = omega arith }
 
   text-same : textFrom r sheet′ ≡ textOf its
-  unfolding answerOf sheetOf textOf
+  unfolding answerFor sheetLeft textOf
   text-same = ap₂ textFrom (a .answer) (a .rows) ∙ go its refl
     where
-      go : (j : Outcome Judged) → its ≡ j → textFrom (answerOf j) (sheetOf j sheet) ≡ textOf j
+      go : (j : Outcome Judged) → its ≡ j → textFrom (answerFor j) (sheetLeft j sheet) ≡ textOf j
       go (refused k) e = refl
       go (answered x) e =
           let s = stands file (length sheet) x e in
@@ -109,5 +109,5 @@ module _ (file store sheet store′ sheet′ : List ℕ) (r : SittingAnswer) (a 
       let e : its ≡ judgement file sheetNumbers = ap (judgement file) (sym length-kept ∙ m) in
       record {
         printed = subst (λ (t : List ℕ). Printed t bytes bytes′ n) (text-same ∙ ap textOf e) p;
-        answers = subst (λ (q : SittingAnswer). Answers file store sheet q store′ sheet′) (a .answer ∙ ap answerOf e) a;
+        answers = subst (λ (q : SittingAnswer). Answers file store sheet q store′ sheet′) (a .answer ∙ ap answerFor e) a;
       }

@@ -34,9 +34,9 @@ abbrev pub headOf : Judged → Head
 headOf x = headed (x .shape) (length (x .report .rows)) (x .report .score)
 
 -- the judgement as the code answers it
-unfoldable pub answerOf : Outcome Judged → SittingAnswer
-answerOf (refused n) = Refused n
-answerOf (answered x) = Reported (headOf x)
+unfoldable pub answerFor : Outcome Judged → SittingAnswer
+answerFor (refused n) = Refused n
+answerFor (answered x) = Reported (headOf x)
 
 -- a report's answer beside what the file announces
 abbrev pub toldOf : Shape → ReportAnswer → SittingAnswer
@@ -44,9 +44,9 @@ toldOf shape (written.Rows rows score) = Reported (headed shape rows score)
 toldOf shape (written.Refused why) = Refused (refusalNumber why)
 
 -- the rows stand on the sheet from row 0 on, every other number as before; a refusal leaves the sheet
-unfoldable pub sheetOf : Outcome Judged → List ℕ → List ℕ
-sheetOf (refused n) sheet = sheet
-sheetOf (answered x) sheet = withRows 0 (x .report .rows) sheet
+unfoldable pub sheetLeft : Outcome Judged → List ℕ → List ℕ
+sheetLeft (refused n) sheet = sheet
+sheetLeft (answered x) sheet = withRows 0 (x .report .rows) sheet
 
 -- the store stays where the reader refuses, and else stands for the room with the file's feeds, up to the first refused
 abbrev pub StoreAfter : List ℕ → Reading → List ℕ → List ℕ → Type 0
@@ -55,6 +55,6 @@ StoreAfter file (reading.Accepted shape) before after = Means after (runOf file 
 
 -- a file judged with a store and a sheet lent
 pub record Answers (file store sheet : List ℕ) (r : SittingAnswer) (store′ sheet′ : List ℕ) : Type 0 where
-  pub answer : r ≡ answerOf (judgement file (length sheet))
-  pub rows : sheet′ ≡ sheetOf (judgement file (length sheet)) sheet
+  pub answer : r ≡ answerFor (judgement file (length sheet))
+  pub rows : sheet′ ≡ sheetLeft (judgement file (length sheet)) sheet
   pub numbers : StoreAfter file (readOf file) store store′

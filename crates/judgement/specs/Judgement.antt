@@ -32,8 +32,8 @@ stringsIn file shape first = reverse (firstOf file shape)
 stringsIn file shape second = reverse (secondOf file shape)
 
 -- the sitting of these strings, with N(s,a) as its counts
-abbrev pub sittingIn : List ℕ → Shape → Sitting
-sittingIn file shape = sittingFor (openingOf shape) (stringsIn file shape)
+abbrev pub fileSitting : List ℕ → Shape → Sitting
+fileSitting file shape = sittingFor (openingOf shape) (stringsIn file shape)
 
 -- "the feed would take the sitting past its reservation": some feed does, exactly when all of them together do
 abbrev pub pastRoom : Sitting → Bool
@@ -44,11 +44,11 @@ abbrev pub emptySample : Shape → Bool
 emptySample shape = eqb (shape .first) 0 || eqb (shape .second) 0
 
 -- the refusals of a file that the reader accepts, where the sheet has so many numbers
-abbrev pub linesOf : List ℕ → Shape → ℕ → List Line
-linesOf file shape sheet =
-    10 when pastRoom (sittingIn file shape)
+abbrev pub fileLines : List ℕ → Shape → ℕ → List Line
+fileLines file shape sheet =
+    10 when pastRoom (fileSitting file shape)
     ∷ 11 when emptySample shape
-    ∷ 12 when doesNotFit sheet 0 (sittingIn file shape)
+    ∷ 12 when doesNotFit sheet 0 (fileSitting file shape)
     ∷ []
 
 -- what the file announces, and the report
@@ -59,7 +59,7 @@ pub record Judged : Type 0 where
 -- 13 to 16 where the reader refuses; else the first line that applies; else the report of the file's own sitting
 unfoldable pub judged : List ℕ → ℕ → Reading → Outcome Judged
 judged file sheet (reading.Refused why) = refused (refusalNumber why)
-judged file sheet (reading.Accepted shape) = verdictOf (linesOf file shape sheet) (record { shape = shape; report = report (sittingIn file shape) })
+judged file sheet (reading.Accepted shape) = verdictOf (fileLines file shape sheet) (record { shape = shape; report = report (fileSitting file shape) })
 
 abbrev pub judgement : List ℕ → ℕ → Outcome Judged
 judgement file sheet = judged file sheet (readOf file)

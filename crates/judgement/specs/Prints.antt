@@ -7,7 +7,7 @@ use Rattle.replay.specs.Table.{Outcome, refused, answered}
 use Rattle.printing.specs.Text.{headText, rowText, reportText, refusalText}
 use Rattle.printing.specs.Putting.{Printable, Printed}
 use Rattle.judgement.specs.Judgement.{sheetNumbers, Judged, judgement}
-use Rattle.judgement.specs.Answers.{answerOf, Answers}
+use Rattle.judgement.specs.Answers.{answerFor, Answers}
 use Rattle.judgement.specs.declared.SittingAnswer.{SittingAnswer}
 use Rattle.judgement.specs.declared.SittingAnswer.the-variants.{Reported, Refused}
 
@@ -25,7 +25,7 @@ textOf (answered x) =
 -- a file whose answer is put into the bytes lent: the text and nothing else, with the answer's sheet and store
 pub record Prints (file store sheet bytes : List ℕ) (r : ℕ) (store′ sheet′ bytes′ : List ℕ) : Type 0 where
   pub printed : Printed (textOf (judgement file sheetNumbers)) bytes bytes′ r
-  pub answers : Answers file store sheet (answerOf (judgement file sheetNumbers)) store′ sheet′
+  pub answers : Answers file store sheet (answerFor (judgement file sheetNumbers)) store′ sheet′
 
 -- ---- an answer that is put
 

@@ -8,15 +8,15 @@ use lib.Dec.{T, eqb, leb, ltb, eqb→eq, leb→le, ltb→lt}
 use lib.ListN.{length, getD}
 use Rattle.numbers.proofs.Tests.{left, right}
 use Rattle.logarithm.specs.Logarithm.{L}
-use Rattle.logarithm.specs.Table.{every, isRight, AllRight}
+use Rattle.logarithm.specs.Table.{everyEntry, isRight, AllRight}
 use Rattle.logarithm.proofs.Laws.{L-only, L-zero}
 
-from : (f : ℕ → ℕ → Bool) (xs : List ℕ) (i : ℕ) → T (every f i xs) → (k : ℕ) → k < length xs → T (f (i + k) (getD xs k 0))
+from : (f : ℕ → ℕ → Bool) (xs : List ℕ) (i : ℕ) → T (everyEntry f i xs) → (k : ℕ) → k < length xs → T (f (i + k) (getD xs k 0))
 from f [] i t k h = absurd (not-suc-le-zero h)
-from f (x ∷ xs) i t zero h = subst (λ (m : ℕ). T (f m x)) (sym (add-zero i)) (left (f i x) (every f (suc i) xs) t)
+from f (x ∷ xs) i t zero h = subst (λ (m : ℕ). T (f m x)) (sym (add-zero i)) (left (f i x) (everyEntry f (suc i) xs) t)
 from f (x ∷ xs) i t (suc k) h =
     subst (λ (m : ℕ). T (f m (getD xs k 0))) (suc-add i k ∙ sym (add-suc i k))
-    (from f xs (suc i) (right (f i x) (every f (suc i) xs) t) k (le-of-suc-le-suc h))
+    (from f xs (suc i) (right (f i x) (everyEntry f (suc i) xs) t) k (le-of-suc-le-suc h))
 
 right-says : (n k : ℕ) → T (isRight n k) → k ≡ L n
 right-says zero k t = eqb→eq k 0 t ∙ sym L-zero

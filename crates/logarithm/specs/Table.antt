@@ -7,9 +7,9 @@ use lib.ListN.{length}
 use Rattle.numbers.specs.Limits.{mostCounted}
 
 -- the test f passes at each entry of the list and its place, counted from i
-abbrev pub every : (ℕ → ℕ → Bool) → ℕ → List ℕ → Bool
-every f i [] = true
-every f i (x ∷ xs) = f i x && every f (suc i) xs
+abbrev pub everyEntry : (ℕ → ℕ → Bool) → ℕ → List ℕ → Bool
+everyEntry f i [] = true
+everyEntry f i (x ∷ xs) = f i x && everyEntry f (suc i) xs
 
 -- 2 ^ k ≤ p < 2 ^ (k + 1). p is an argument, so that the power is worked out once.
 abbrev pub between : ℕ → ℕ → Bool
@@ -22,7 +22,7 @@ isRight (suc n) k = between (suc n ^ 1024) k
 
 -- each entry is L of its place
 abbrev pub AllRight : List ℕ → Type 0
-AllRight xs = T (every isRight 0 xs)
+AllRight xs = T (everyEntry isRight 0 xs)
 
 -- what is lent for reading logarithms: a table that is right, up to the largest number that is asked for
 pub record AreLogs (xs : List ℕ) : Type 0 where

@@ -12,7 +12,7 @@ use lib.Seq.{getD-drop}
 use mir.Syntax.{w64}
 use mir.Val.{SFits}
 use Rattle.numbers.specs.Limits.{rowWidth}
-use Rattle.printing.specs.Text.{ascii, blank, digit, decimal, signed, lineOf, headText, rowText, rowAt, rowsText, reportText, refusalText}
+use Rattle.printing.specs.Text.{ascii, space, digit, decimal, signed, lineOf, headText, rowText, rowAt, rowsText, reportText, refusalText}
 use Rattle.printing.specs.Putting.{textBytes, Printable}
 use Rattle.printing.proofs.Decimals.{decimal-small, decimal-more}
 
@@ -47,7 +47,7 @@ unfolding lineOf
 line-long w [] s = omega arith
 line-long w (z ∷ []) s = simp length-append (omega (arith, s .0))
 line-long w (z ∷ y ∷ zs) s =
-    rw (length-append (signed z) (blank ∷ lineOf (y ∷ zs))) (omega (arith, s .0, line-long w (y ∷ zs) (s .1), suc-mul (length (y ∷ zs)) (suc w)))
+    rw (length-append (signed z) (space ∷ lineOf (y ∷ zs))) (omega (arith, s .0, line-long w (y ∷ zs) (s .1), suc-mul (length (y ∷ zs)) (suc w)))
 
 -- ---- a list of numbers of 32 bits
 

@@ -6,20 +6,20 @@ use mathlib.Core.List.{List, [], _∷_, _++_, map, append-assoc}
 use lib.IntN.{ℤ, pos}
 use lib.ListN.{length, getD, take, drop, take-append-drop}
 use lib.Seq.{take-suc, take-all}
-use Rattle.printing.specs.Text.{lineFeed, blank, decimal, signed, lineOf}
+use Rattle.printing.specs.Text.{lineFeed, space, decimal, signed, lineOf}
 use Rattle.printing.specs.Putting.{HasRoom, Puts}
 use Rattle.printing.proofs.Placing.{room-front, room-back, puts-then}
 
 -- numbers, each with a blank after it
 abbrev pub parted : List ℕ → List ℕ
 parted [] = []
-parted (n ∷ ns) = decimal n ++ (blank ∷ parted ns)
+parted (n ∷ ns) = decimal n ++ (space ∷ parted ns)
 
 parted-append : (ms ns : List ℕ) → parted (ms ++ ns) ≡ parted ms ++ parted ns
 parted-append [] ns = refl
-parted-append (m ∷ ms) ns = rw (parted-append ms ns) (sym (append-assoc (decimal m) (blank ∷ parted ms) (parted ns)))
+parted-append (m ∷ ms) ns = rw (parted-append ms ns) (sym (append-assoc (decimal m) (space ∷ parted ms) (parted ns)))
 
-line-cons : (y : ℤ) (zs : List ℤ) (z : ℤ) → lineOf (y ∷ (zs ++ (z ∷ []))) ≡ signed y ++ (blank ∷ lineOf (zs ++ (z ∷ [])))
+line-cons : (y : ℤ) (zs : List ℤ) (z : ℤ) → lineOf (y ∷ (zs ++ (z ∷ []))) ≡ signed y ++ (space ∷ lineOf (zs ++ (z ∷ [])))
 unfolding lineOf
 line-cons y [] z = refl
 line-cons y (x ∷ zs) z = refl
@@ -32,8 +32,8 @@ line-parted : (ns : List ℕ) (z : ℤ) → lineOf (map pos ns ++ (z ∷ [])) �
 unfolding lineOf ending
 line-parted [] z = refl
 line-parted (n ∷ ns) z =
-    line-cons (pos n) (map pos ns) z ∙ ap (λ (t : List ℕ). decimal n ++ (blank ∷ t)) (line-parted ns z)
-    ∙ sym (append-assoc (decimal n) (blank ∷ parted ns) (ending z))
+    line-cons (pos n) (map pos ns) z ∙ ap (λ (t : List ℕ). decimal n ++ (space ∷ t)) (line-parted ns z)
+    ∙ sym (append-assoc (decimal n) (space ∷ parted ns) (ending z))
 
 -- the first i numbers of a line have been put, each with its blank
 pub record Begun (ns : List ℕ) (z : ℤ) (at : ℕ) (a : List ℕ) (i : ℕ) (b : List ℕ) (next : ℕ) : Type 0 where
@@ -44,7 +44,7 @@ module _ {ns : List ℕ} {z : ℤ} {at : ℕ} {a : List ℕ} {i : ℕ} {b : List
   -- another number
   module _ (more : i < length ns) (n : ℕ) (e : n ≡ getD ns i 0) where
     number : List ℕ
-    number = decimal n ++ (blank ∷ [])
+    number = decimal n ++ (space ∷ [])
 
     one-more : parted (take (i + 1) ns) ≡ parted (take i ns) ++ number
     unfolding number
@@ -64,17 +64,17 @@ module _ {ns : List ℕ} {z : ℤ} {at : ℕ} {a : List ℕ} {i : ℕ} {b : List
 
     pub room-number : HasRoom (decimal n) next b
     unfolding number
-    room-number = room-front number (decimal n) (blank ∷ []) refl next b number-room
+    room-number = room-front number (decimal n) (space ∷ []) refl next b number-room
 
     module _ (c : List ℕ) (end : ℕ) (put : Puts (decimal n) next b c end) where
-      pub room-blank : HasRoom (blank ∷ []) end c
+      pub room-blank : HasRoom (space ∷ []) end c
       unfolding number
-      room-blank = room-back number (decimal n) (blank ∷ []) refl next b number-room c end put
+      room-blank = room-back number (decimal n) (space ∷ []) refl next b number-room c end put
 
-      pub puts-number : (d : List ℕ) (s : ℕ) → Puts (blank ∷ []) end c d s → Puts (parted (take (i + 1) ns)) at a d s
+      pub puts-number : (d : List ℕ) (s : ℕ) → Puts (space ∷ []) end c d s → Puts (parted (take (i + 1) ns)) at a d s
       unfolding number
       puts-number d s mark =
-          puts-then _ _ _ one-more at a beginning b next (begun .so-far) d s (puts-then number (decimal n) (blank ∷ []) refl next b number-room c end put d s mark)
+          puts-then _ _ _ one-more at a beginning b next (begun .so-far) d s (puts-then number (decimal n) (space ∷ []) refl next b number-room c end put d s mark)
 
   -- no other; the last number comes as the machine reads it
   module _ (done : length ns ≤ i) (y : ℤ) (e : y ≡ z) where

@@ -6,7 +6,7 @@ use mathlib.Core.Path.{_≡_, refl, sym, ap, ap₂, subst, _∙_}
 use mathlib.Core.List.{List, [], _∷_, _++_}
 use lib.IntN.{ℤ, pos, negsuc}
 use lib.ListN.{length, length-append}
-use Rattle.printing.specs.Text.{lineFeed, blank, minus, digit, spelled, decimal, signed, lineOf}
+use Rattle.printing.specs.Text.{lineFeed, space, minus, digit, spelled, decimal, signed, lineOf}
 use Rattle.printing.proofs.Decimals.{decimal-small, decimal-more}
 
 -- the number whose digits are l, after those of v
@@ -58,9 +58,9 @@ decimal-above : (n : ℕ) → Above 47 (decimal n)
 decimal-above n = digits-above (suc n) n (omega arith)
 
 -- no byte of a number is a blank or a line feed
-signed-above : (z : ℤ) → Above blank (signed z)
-signed-above (pos n) = above-less blank 47 (decimal n) (omega arith) (decimal-above n)
-signed-above (negsuc n) = (omega arith, above-less blank 47 (decimal (suc n)) (omega arith) (decimal-above (suc n)))
+signed-above : (z : ℤ) → Above space (signed z)
+signed-above (pos n) = above-less space 47 (decimal n) (omega arith) (decimal-above n)
+signed-above (negsuc n) = (omega arith, above-less space 47 (decimal (suc n)) (omega arith) (decimal-above (suc n)))
 
 -- texts are parted where the first byte that is not above b stands
 parts : (b : ℕ) (p q : List ℕ) (s t : ℕ) (l m : List ℕ) → Above b p → Above b q → s ≤ b → t ≤ b → p ++ (s ∷ l) ≡ q ++ (t ∷ m) → (p ≡ q) × (s ≡ t) × (l ≡ m)
@@ -93,7 +93,7 @@ signed-some (negsuc n) = omega arith
 -- what follows a line's first number: a byte, and the rest
 mark : List ℤ → ℕ
 mark [] = lineFeed
-mark (z ∷ zs) = blank
+mark (z ∷ zs) = space
 
 rest : List ℤ → List ℕ
 rest [] = []
@@ -104,7 +104,7 @@ unfolding lineOf mark rest
 line-first z [] = refl
 line-first z (y ∷ zs) = refl
 
-mark-low : (zs : List ℤ) → mark zs ≤ blank
+mark-low : (zs : List ℤ) → mark zs ≤ space
 unfolding mark
 mark-low [] = omega arith
 mark-low (z ∷ zs) = omega arith
@@ -112,13 +112,13 @@ mark-low (z ∷ zs) = omega arith
 -- two lines with one text begin alike
 alike : (y z : ℤ) (ys zs : List ℤ) → lineOf (y ∷ ys) ≡ lineOf (z ∷ zs) → (signed y ≡ signed z) × (mark ys ≡ mark zs) × (rest ys ≡ rest zs)
 alike y z ys zs e =
-    parts blank (signed y) (signed z) (mark ys) (mark zs) (rest ys) (rest zs) (signed-above y) (signed-above z) (mark-low ys) (mark-low zs)
+    parts space (signed y) (signed z) (mark ys) (mark zs) (rest ys) (rest zs) (signed-above y) (signed-above z) (mark-low ys) (mark-low zs)
     (sym (line-first y ys) ∙ e ∙ line-first z zs)
 
 empty-alone : (z : ℤ) (zs : List ℤ) → lineOf [] ≡ lineOf (z ∷ zs) → ⊥
 unfolding lineOf
 empty-alone z zs e =
-    let p = parts blank [] (signed z) lineFeed (mark zs) [] (rest zs) tt (signed-above z) (omega arith) (mark-low zs) (e ∙ line-first z zs) in
+    let p = parts space [] (signed z) lineFeed (mark zs) [] (rest zs) tt (signed-above z) (omega arith) (mark-low zs) (e ∙ line-first z zs) in
     omega (arith, signed-some z, ap length (p .0))
 
 -- THEOREM. Two lines with one text have the same numbers

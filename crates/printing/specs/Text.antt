@@ -17,8 +17,8 @@ ascii (c then s) = code c ∷ ascii s
 abbrev pub lineFeed : ℕ
 lineFeed = 10
 
-abbrev pub blank : ℕ
-blank = 32
+abbrev pub space : ℕ
+space = 32
 
 abbrev pub minus : ℕ
 minus = 45
@@ -44,7 +44,7 @@ signed (negsuc n) = minus ∷ decimal (suc n)
 unfoldable pub lineOf : List ℤ → List ℕ
 lineOf [] = lineFeed ∷ []
 lineOf (z ∷ []) = signed z ++ (lineFeed ∷ [])
-lineOf (z ∷ y ∷ zs) = signed z ++ (blank ∷ lineOf (y ∷ zs))
+lineOf (z ∷ y ∷ zs) = signed z ++ (space ∷ lineOf (y ∷ zs))
 
 -- "a line with A, D, n, m, row count, doubled score"
 abbrev pub headText : ℕ → ℕ → ℕ → ℕ → ℕ → ℤ → List ℕ

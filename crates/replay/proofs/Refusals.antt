@@ -5,7 +5,7 @@ use mathlib.Core.Path.{_≡_, refl}
 use mathlib.Core.Logic.{_↔_}
 use lib.Dec.{T}
 use Rattle.replay.specs.Room.{Opening, Desk, closed, opened, Room, left}
-use Rattle.replay.specs.Table.{Outcome, answered, refused, verdictOf, NoneApplies, First, rises}
+use Rattle.replay.specs.Table.{Outcome, answered, refused, verdictOf, NoneApplies, First, inOrder}
 use Rattle.replay.specs.Machine.{Rules, opening, asking, closing, Call, atDesk, roomQuestion, openingTable, ownLines, askingTable, closingTable, tableAt, tableOf, answerOf, verdict, shift, settle, move}
 use Rattle.replay.proofs.Tables.{refused-exactly, answered-exactly, answers-none}
 
@@ -26,12 +26,12 @@ module _ (R : Rules) where
   answer-only ρ c a e = answers-none (tableOf R ρ c) (answerOf R ρ c) a e .1
 
   -- the numbers rise along each table, given that an ask's own lines rise and are above 4
-  pub tables-rise : ((o : Opening) (s : R .State) (q : R .Ask) → T (rises 5 (R .lines o s q))) → (ρ : Room (R .State)) (c : Call R) → T (rises 2 (tableOf R ρ c))
-  unfolding rises tableOf tableAt openingTable askingTable closingTable ownLines
+  pub tables-rise : ((o : Opening) (s : R .State) (q : R .Ask) → T (inOrder 5 (R .lines o s q))) → (ρ : Room (R .State)) (c : Call R) → T (inOrder 2 (tableOf R ρ c))
+  unfolding inOrder tableOf tableAt openingTable askingTable closingTable ownLines
   tables-rise own ρ (atDesk d (opening o)) = tt
   tables-rise own ρ (atDesk d (asking q)) = go (ρ .at d)
     where
-      go : (D : Desk (R .State)) → T (rises 5 (ownLines R D q))
+      go : (D : Desk (R .State)) → T (inOrder 5 (ownLines R D q))
       go closed = tt
       go (opened o s) = own o s q
   tables-rise own ρ (atDesk d closing) = tt

@@ -10,14 +10,14 @@ use Rattle.numbers.specs.Limits.{desks}
 use Rattle.numbers.proofs.Sums.{sum-zero}
 use Rattle.replay.specs.Room.{Making, Opening, Desk, closed, opened, Room, new, reserved, reservations, left}
 use Rattle.replay.specs.Table.{answered, NoneApplies}
-use Rattle.replay.specs.Machine.{Rules, Spare, spare, isOpen, aboveRoomLeft, Act, opening, asking, closing, Call, atDesk, openingTable, askingTable, closingTable, tableAt, verdict, moved, shift}
+use Rattle.replay.specs.Machine.{Rules, Spare, spare, isOpened, aboveRoomLeft, Act, opening, asking, closing, Call, atDesk, openingTable, askingTable, closingTable, tableAt, verdict, moved, shift}
 use Rattle.replay.specs.Serial.{after}
 use Rattle.replay.proofs.Desks.{put-all, put-sum}
 use Rattle.replay.proofs.Swap.{heard, shift-less}
 use Rattle.replay.proofs.Runs.{run-keeps}
 
 -- a desk that is not open is closed
-pub shut : {State : Type 0} (D : Desk State) → isOpen D ≡ false → D ≡ closed
+pub shut : {State : Type 0} (D : Desk State) → isOpened D ≡ false → D ≡ closed
 shut closed h = refl
 shut (opened o s) h = let z : _≡_ {A = ℕ} 0 1 = cc in absurd (omega arith)
 

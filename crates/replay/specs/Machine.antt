@@ -53,9 +53,9 @@ abbrev pub noSuchDesk : ℕ → Bool
 noSuchDesk d = leb desks d
 
 -- whether a desk is open
-abbrev pub isOpen : {State : Type 0} → Desk State → Bool
-isOpen closed = false
-isOpen (opened o s) = true
+abbrev pub isOpened : {State : Type 0} → Desk State → Bool
+isOpened closed = false
+isOpened (opened o s) = true
 
 -- "A or D outside its limits"
 unfoldable pub outsideLimits : Opening → Bool
@@ -73,7 +73,7 @@ aboveRoomLeft S o = ltb (S .free) (o .reserve)
 unfoldable pub openingTable : {State : Type 0} → Spare → ℕ → Desk State → Opening → List Line
 openingTable S d D o =
     2 when noSuchDesk d
-    ∷ 3 when isOpen D
+    ∷ 3 when isOpened D
     ∷ 5 when outsideLimits o
     ∷ 6 when zeroOrAboveK S o
     ∷ 7 when aboveRoomLeft S o
@@ -83,7 +83,7 @@ openingTable S d D o =
 unfoldable pub closingTable : {State : Type 0} → ℕ → Desk State → List Line
 closingTable d D =
     2 when noSuchDesk d
-    ∷ 4 when not (isOpen D)
+    ∷ 4 when not (isOpened D)
     ∷ []
 
 module _ (R : Rules) where
@@ -96,7 +96,7 @@ module _ (R : Rules) where
   unfoldable pub askingTable : ℕ → Desk (R .State) → R .Ask → List Line
   askingTable d D q =
       2 when noSuchDesk d
-      ∷ 4 when not (isOpen D)
+      ∷ 4 when not (isOpened D)
       ∷ ownLines D q
 
   -- what a caller may want at a desk

@@ -11,8 +11,8 @@ infix 68 _when_
 pub data Line : Type 0 where
   _when_ : ℕ → Bool → Line
 
-abbrev pub number : Line → ℕ
-number (n when t) = n
+abbrev pub lineNumber : Line → ℕ
+lineNumber (n when t) = n
 
 abbrev pub applies : Line → Bool
 applies (n when t) = t
@@ -25,7 +25,7 @@ pub data Outcome (Answer : Type 0) : Type 0 where
 -- refused by the first line that applies, answered where none does
 unfoldable pub verdictOf : {Answer : Type 0} → List Line → Answer → Outcome Answer
 verdictOf [] a = answered a
-verdictOf (l ∷ ls) a = cond (applies l) (refused (number l)) (verdictOf ls a)
+verdictOf (l ∷ ls) a = cond (applies l) (refused (lineNumber l)) (verdictOf ls a)
 
 -- no line applies
 abbrev pub NoneApplies : List Line → Type 0
@@ -40,6 +40,6 @@ pub record First (ls : List Line) (n : ℕ) : Type 0 where
   pub quiet : NoneApplies before
 
 -- the numbers rise along a table, the first of them at least `low`
-unfoldable pub rises : ℕ → List Line → Bool
-rises low [] = true
-rises low (l ∷ ls) = leb low (number l) && rises (suc (number l)) ls
+unfoldable pub inOrder : ℕ → List Line → Bool
+inOrder low [] = true
+inOrder low (l ∷ ls) = leb low (lineNumber l) && inOrder (suc (lineNumber l)) ls

@@ -22,14 +22,14 @@ ghost use Rattle.numbers.specs.Limits.{desks, mostRoom, rowWidth};
 ghost use Rattle.logarithm.specs.Table.{AreLogs};
 ghost use Rattle.store.specs.Layout.{headerSize};
 ghost use Rattle.store.specs.Meaning.{sittingAt};
-ghost use Rattle.calls.specs.Refusals.{reportOf};
+ghost use Rattle.calls.specs.Refusals.{writtenOf};
 ghost use Rattle.calls.specs.Promises.{withRows, Reports};
 ghost use Rattle.rows.specs.Rows as rows;
 ghost use Rattle.report.specs.Desk.{deskIn, CanReportOn, WeighedDesk, DecidedDesk};
 
 // Writes a desk's report on the sheet, from row `place` on.
 pub fn report(store: &[u32], desk: u32, sheet: &mut [u32], place: u32) -> ReportAnswer
-    ensures { λ r. ⌜ Reports (now (store .entry)) desk place (reportOf r place (now (sheet .exit))) (now (sheet .entry)) (now (sheet .exit)) ⌝ }
+    ensures { λ r. ⌜ Reports (now (store .entry)) desk place (writtenOf r place (now (sheet .exit))) (now (sheet .entry)) (now (sheet .exit)) ⌝ }
 {
     if !soundness::sound(store) {
         return ReportAnswer::Refused(Refusal::Unsound);
@@ -56,7 +56,7 @@ pub fn report(store: &[u32], desk: u32, sheet: &mut [u32], place: u32) -> Report
 // The report on an open desk both of whose samples have symbols. What logarithms are read from is put here once, and lent to all below.
 fn report_on(store: &[u32], desk: Desk, sheet: &mut [u32], place: u32) -> ReportAnswer
     requires { ⌜ CanReportOn (now store) desk ⌝ }
-    ensures { λ r. ⌜ Reports (now (store .entry)) (desk .number) place (reportOf r place (now (sheet .exit))) (now (sheet .entry)) (now (sheet .exit)) ⌝ }
+    ensures { λ r. ⌜ Reports (now (store .entry)) (desk .number) place (writtenOf r place (now (sheet .exit))) (now (sheet .entry)) (now (sheet .exit)) ⌝ }
 {
     let logs = logarithm::logs();
     let mut kept = [0u8; MOST_ROOM];

@@ -12,7 +12,7 @@ use Rattle.numbers.proofs.Orders.{Leb, le, gt, lebView}
 use Rattle.contexts.specs.Context.{isContext}
 use Rattle.contexts.specs.Sitting.{first, second}
 use Rattle.estimate.specs.Trees.{In, Kind, shared, own, Triple, below}
-use Rattle.rows.specs.Members.{Member, member, push, gather, onlyIf, here, members}
+use Rattle.rows.specs.Members.{Member, member, prefixed, gather, onlyIf, here, members}
 
 -- ---- which members are there
 
@@ -82,7 +82,7 @@ in-members A zero t k (a ∷ s) c m = absurd c
 in-members A (suc d) t k [] c m = Memᴰ·append-left _ (mem-here t k m)
 in-members A (suc d) t k (a ∷ s) c m =
     Memᴰ·append-right (here t)
-    (mem-gather A _ a (ltb→lt a A (left (ltb a A) _ c)) (Memᴰ·map (push a) (in-members A d (below a t) k s (right (ltb a A) _ c) m)))
+    (mem-gather A _ a (ltb→lt a A (left (ltb a A) _ c)) (Memᴰ·map (prefixed a) (in-members A d (below a t) k s (right (ltb a A) _ c) m)))
 
 pub of-members : (A d : ℕ) (t : Triple) {r : Member} → List·Memᴰ r (members A d t) → T (isContext A d (r .context)) × MemberOf t r
 unfolding members isContext
@@ -90,10 +90,10 @@ of-members A zero t {r} m = let h = of-here t m in (subst (λ (s : List ℕ). T 
 of-members A (suc d) t {r} m = go (λ a q. of-members A d (below a t) {r = q}) (List·Memᴰ·append-cases (here t) m)
   where
     go : ((a : ℕ) (q : Member) → List·Memᴰ q (members A d (below a t)) → T (isContext A d (q .context)) × MemberOf (below a t) q)
-        → List·Memᴰ r (here t) ⊎ List·Memᴰ r (gather A (λ a. map (push a) (members A d (below a t)))) → T (isContext A (suc d) (r .context)) × MemberOf t r
+        → List·Memᴰ r (here t) ⊎ List·Memᴰ r (gather A (λ a. map (prefixed a) (members A d (below a t)))) → T (isContext A (suc d) (r .context)) × MemberOf t r
     go ih (inl m) = let h = of-here t m in (subst (λ (s : List ℕ). T (isContext A (suc d) s)) (sym (h .0)) tt, h .1)
     go ih (inr m) =
         let x = of-gather A _ m in
-        let y = Memᴰ·of-map (push (x .0)) _ (x .2) in
+        let y = Memᴰ·of-map (prefixed (x .0)) _ (x .2) in
         let z = ih (x .0) (y .0) (y .1) in
         subst (λ (q : Member). T (isContext A (suc d) (q .context)) × MemberOf t q) (y .2) (both (ltb (x .0) A) _ (lt→ltb (x .0) A (x .1)) (z .0), z .1)

@@ -10,11 +10,11 @@ use Rattle.contexts.specs.Context.{precedes}
 use Rattle.contexts.specs.Sitting.{first, second}
 use Rattle.contexts.proofs.RowOrder.{precedes-less, precedes-older, precedes-asym}
 use Rattle.estimate.specs.Trees.{Kind, shared, own, Triple, below}
-use Rattle.rows.specs.Members.{Member, member, Before, Increasing, push, gather, onlyIf, here, members}
+use Rattle.rows.specs.Members.{Member, member, Before, Increasing, prefixed, gather, onlyIf, here, members}
 use Rattle.rows.proofs.Holding.{of-gather, of-only, of-here}
 
 -- one symbol more recent on both sides keeps the order
-before-push : (a : ℕ) (p q : Member) → Before p q → Before (push a p) (push a q)
+before-push : (a : ℕ) (p q : Member) → Before p q → Before (prefixed a p) (prefixed a q)
 before-push a p q (inl t) = inl (precedes-older a (p .context) (q .context) t)
 before-push a p q (inr (e, l)) = inr (ap {B = List ℕ} (λ (s : List ℕ). a ∷ s) e, l)
 
@@ -29,24 +29,24 @@ increasing-append (x ∷ xs) ys p q b = (
     go r (inl m) = p .0 r m
     go r (inr m) = b x r (List·Memᴰ·head refl) m
 
-increasing-push : (a : ℕ) (xs : List Member) → Increasing xs → Increasing (map (push a) xs)
+increasing-push : (a : ℕ) (xs : List Member) → Increasing xs → Increasing (map (prefixed a) xs)
 increasing-push a [] p = tt
 increasing-push a (x ∷ xs) p = (
-  λ q m. let y = Memᴰ·of-map (push a) xs m in subst (Before (push a x)) (y .2) (before-push a x (y .0) (p .0 (y .0) (y .1))),
+  λ q m. let y = Memᴰ·of-map (prefixed a) xs m in subst (Before (prefixed a x)) (y .2) (before-push a x (y .0) (p .0 (y .0) (y .1))),
   increasing-push a xs (p .1),
 )
 
-increasing-gather : (n : ℕ) (g : ℕ → List Member) → ((a : ℕ) → Increasing (g a)) → Increasing (gather n (λ a. map (push a) (g a)))
+increasing-gather : (n : ℕ) (g : ℕ → List Member) → ((a : ℕ) → Increasing (g a)) → Increasing (gather n (λ a. map (prefixed a) (g a)))
 unfolding gather
 increasing-gather zero g p = tt
-increasing-gather (suc n) g p = increasing-append (gather n (λ a. map (push a) (g a))) _ (increasing-gather n g p) (increasing-push n (g n) (p n)) cross
+increasing-gather (suc n) g p = increasing-append (gather n (λ a. map (prefixed a) (g a))) _ (increasing-gather n g p) (increasing-push n (g n) (p n)) cross
   where
-    cross : (x y : Member) → List·Memᴰ x (gather n (λ a. map (push a) (g a))) → List·Memᴰ y (map (push n) (g n)) → Before x y
+    cross : (x y : Member) → List·Memᴰ x (gather n (λ a. map (prefixed a) (g a))) → List·Memᴰ y (map (prefixed n) (g n)) → Before x y
     cross x y m k =
-        let u = of-gather n (λ a. map (push a) (g a)) m in
-        let v = Memᴰ·of-map (push (u .0)) (g (u .0)) (u .2) in
-        let w = Memᴰ·of-map (push n) (g n) k in
-        subst (λ (r : Member). Before r y) (v .2) (subst (Before (push (u .0) (v .0))) (w .2) (inl (precedes-less (u .0) n (v .0 .context) (w .0 .context) (u .1))))
+        let u = of-gather n (λ a. map (prefixed a) (g a)) m in
+        let v = Memᴰ·of-map (prefixed (u .0)) (g (u .0)) (u .2) in
+        let w = Memᴰ·of-map (prefixed n) (g n) k in
+        subst (λ (r : Member). Before r y) (v .2) (subst (Before (prefixed (u .0) (v .0))) (w .2) (inl (precedes-less (u .0) n (v .0 .context) (w .0 .context) (u .1))))
 
 increasing-only : (b : Bool) (r : Member) (rest : List Member) → ((q : Member) → List·Memᴰ q rest → Before r q) → Increasing rest → Increasing (onlyIf b r rest)
 increasing-only true r rest h p = (h, p)
@@ -83,10 +83,10 @@ members-increasing A (suc d) t =
     increasing-append (here t) _ (increasing-here (t shared []) (t (own first) []) (t (own second) []))
     (increasing-gather A (λ a. members A d (below a t)) (λ a. members-increasing A d (below a t))) cross
   where
-    cross : (x y : Member) → List·Memᴰ x (here t) → List·Memᴰ y (gather A (λ a. map (push a) (members A d (below a t)))) → Before x y
+    cross : (x y : Member) → List·Memᴰ x (here t) → List·Memᴰ y (gather A (λ a. map (prefixed a) (members A d (below a t)))) → Before x y
     cross x y m k =
-        let v = of-gather A (λ a. map (push a) (members A d (below a t))) k in
-        let w = Memᴰ·of-map (push (v .0)) (members A d (below (v .0) t)) (v .2) in
+        let v = of-gather A (λ a. map (prefixed a) (members A d (below a t))) k in
+        let w = Memᴰ·of-map (prefixed (v .0)) (members A d (below (v .0) t)) (v .2) in
         subst (Before x) (w .2) (inl (subst (λ (s : List ℕ). T (precedes s (v .0 ∷ w .0 .context))) (sym (of-here t m .0)) tt))
 
 -- no context precedes itself

@@ -6,7 +6,7 @@ use mathlib.Core.Bool.{Bool, true, false}
 use mathlib.Core.List.{List, [], _∷_, _++_, map, append-nil, append-assoc, map-append}
 use Rattle.contexts.specs.Sitting.{first, second}
 use Rattle.estimate.specs.Trees.{Kind, shared, own, Triple, below}
-use Rattle.rows.specs.Members.{Member, member, push, gather, onlyIf, here, members}
+use Rattle.rows.specs.Members.{Member, member, prefixed, gather, onlyIf, here, members}
 use Rattle.rows.specs.Walk.{older}
 
 -- a member seen from s, as a member
@@ -28,7 +28,7 @@ unfolding gather
 map-gather h zero g = refl
 map-gather h (suc n) g = map-append h (gather n g) (g n) ∙ ap (λ (l : List Member). l ++ map h (g n)) (map-gather h n g)
 
-pub prefix-push : (s : List ℕ) (a : ℕ) (rs : List Member) → map (prefix s) (map (push a) rs) ≡ map (prefix (older s a)) rs
+pub prefix-push : (s : List ℕ) (a : ℕ) (rs : List Member) → map (prefix s) (map (prefixed a) rs) ≡ map (prefix (older s a)) rs
 prefix-push s a [] = refl
 prefix-push s a (r ∷ rs) = ap₂ {C = List Member} _∷_ (ap (member (r .kind)) (sym (append-assoc s (a ∷ []) (r .context)))) (prefix-push s a rs)
 
@@ -54,12 +54,12 @@ members-suc A d t s =
 pub members-empty : (A d : ℕ) → members A d (λ k s. false) ≡ []
 unfolding members
 members-empty A zero = refl
-members-empty A (suc d) = gather-cong A (λ a l. ap (map (push a)) (members-empty A d)) ∙ gather-none A
+members-empty A (suc d) = gather-cong A (λ a l. ap (map (prefixed a)) (members-empty A d)) ∙ gather-none A
 
 -- where a triple holds the empty string alone
 pub members-top : (A d : ℕ) (t : Triple) → ((k : Kind) (a : ℕ) (u : List ℕ) → t k (a ∷ u) ≡ false) → members A d t ≡ here t
 unfolding members
 members-top A zero t e = refl
 members-top A (suc d) t e =
-    ap (here t ++_) (gather-cong A (λ a l. ap (λ (u : Triple). map (push a) (members A d u)) (fun-ext (λ k. fun-ext (e k a))) ∙ ap (map (push a)) (members-empty A d)) ∙ gather-none A)
+    ap (here t ++_) (gather-cong A (λ a l. ap (λ (u : Triple). map (prefixed a) (members A d u)) (fun-ext (λ k. fun-ext (e k a))) ∙ ap (map (prefixed a)) (members-empty A d)) ∙ gather-none A)
     ∙ append-nil (here t)

@@ -19,7 +19,7 @@ use Rattle.estimate.specs.Recursion.{Losses, losses}
 use Rattle.estimate.proofs.Integers.{minus, minus-add}
 use Rattle.estimate.proofs.Loss.{lossAt, loss, worths-losses}
 use Rattle.estimate.proofs.Optimal.{score-of}
-use Rattle.rows.specs.Members.{Member, member, push, gather, onlyIf, here, members}
+use Rattle.rows.specs.Members.{Member, member, prefixed, gather, onlyIf, here, members}
 use Rattle.rows.specs.Rows.{scoreOf}
 
 -- the loss of a list of members
@@ -32,7 +32,7 @@ unfolding lossOf
 loss-append f [] ys = omega arith
 loss-append f (x ∷ xs) ys = omega (arith, loss-append f xs ys)
 
-loss-push : (f : Losses) (a : ℕ) (xs : List Member) → lossOf f (map (push a) xs) ≡ lossOf (below a f) xs
+loss-push : (f : Losses) (a : ℕ) (xs : List Member) → lossOf f (map (prefixed a) xs) ≡ lossOf (below a f) xs
 unfolding lossOf
 loss-push f a [] = refl
 loss-push f a (x ∷ xs) = omega (arith, loss-push f a xs)
@@ -64,9 +64,9 @@ members-loss A zero f t = loss-here f t
 members-loss A (suc d) f t =
     omega (
       arith,
-      loss-append f (here t) (gather A (λ a. map (push a) (members A d (below a t)))),
+      loss-append f (here t) (gather A (λ a. map (prefixed a) (members A d (below a t)))),
       loss-here f t,
-      loss-gather f A (λ a. map (push a) (members A d (below a t))),
+      loss-gather f A (λ a. map (prefixed a) (members A d (below a t))),
       sum-cong A (λ a l. loss-push f a (members A d (below a t)) ∙ members-loss A d (below a f) (below a t)),
     )
 

@@ -32,8 +32,8 @@ Increasing [] = Unit {0}
 Increasing (p ∷ ps) = ((q : Member) → List·Memᴰ q ps → Before p q) × Increasing ps
 
 -- the same member, seen from the string without its most recent symbol a
-abbrev pub push : ℕ → Member → Member
-push a p = member (p .kind) (a ∷ p .context)
+abbrev pub prefixed : ℕ → Member → Member
+prefixed a p = member (p .kind) (a ∷ p .context)
 
 -- g 0, then g 1, and so on to g (n - 1)
 unfoldable pub gather : ℕ → (ℕ → List Member) → List Member
@@ -50,4 +50,4 @@ here t = onlyIf (t shared []) (member shared []) (onlyIf (t (own first) []) (mem
 -- all members of a triple over A symbols, of at most d symbols each
 unfoldable pub members : ℕ → ℕ → Triple → List Member
 members A zero t = here t
-members A (suc d) t = here t ++ gather A (λ a. map (push a) (members A d (below a t)))
+members A (suc d) t = here t ++ gather A (λ a. map (prefixed a) (members A d (below a t)))

@@ -21,7 +21,7 @@ use Rattle.replay.specs.Machine.{Call}
 use Rattle.replay.specs.Serial.{Told, outcomes, after, struck, sittings}
 use Rattle.replay.specs.Alone.{Alone, begins, goes-on, ends, asks}
 use Rattle.replay.proofs.Reached.{asks-append, open-alone}
-use Rattle.rules.specs.Feed.{countedFrom, fresh, fed, notOfSitting}
+use Rattle.rules.specs.Feed.{countedFrom, emptyProgress, afterFeed, notOfSitting}
 use Rattle.rules.specs.Rules.{Ask, feed, reporting, charting, rules, linesOf, nextOf}
 use Rattle.rules.specs.Strings.{push, longer, stringsOf, StandsFor, OfOwnStrings}
 
@@ -33,7 +33,7 @@ take-cons (suc D) a w = ap {B = List ℕ} (λ (t : List ℕ). a ∷ t) (take-tak
 
 -- ---- a new sitting, and one more symbol
 
-pub stands-fresh : (o : Opening) → StandsFor o (λ i. []) (fresh o)
+pub stands-fresh : (o : Opening) → StandsFor o (λ i. []) (emptyProgress o)
 unfolding isContext N
 stands-fresh o = record { over = λ i. tt; sizes = λ i. refl; recent = λ i. sym (take-nil (o .depth)); counts = λ i s a c. refl }
 
@@ -69,8 +69,8 @@ module _ (o : Opening) (w : Sample → List ℕ) (p : Progress) (S : StandsFor o
   counts j s b t other c = let e = S .counts j s b c in omega arith
 
   -- a fed sitting stands for the longer string
-  pub stands-fed : StandsFor o (push i a w) (fed o i a p)
-  unfolding fed
+  pub stands-fed : StandsFor o (push i a w) (afterFeed o i a p)
+  unfolding afterFeed
   stands-fed = record {
     over = λ j. over j (sameSample j i);
     sizes = λ j. sizes j (sameSample j i);

@@ -16,12 +16,12 @@ abbrev pub countedFrom : Opening → ℕ
 countedFrom o = 0
 
 -- "a desk opens with both samples empty"
-abbrev pub fresh : Opening → Progress
-fresh o = record { size = λ i. 0; recent = λ i. []; count = λ i s a. 0 }
+abbrev pub emptyProgress : Opening → Progress
+emptyProgress o = record { size = λ i. 0; recent = λ i. []; count = λ i s a. 0 }
 
 -- the sitting after symbol a is fed to sample i: each context that a follows gets one more count of a
-unfoldable pub fed : Opening → Sample → ℕ → Progress → Progress
-fed o i a p = record {
+unfoldable pub afterFeed : Opening → Sample → ℕ → Progress → Progress
+afterFeed o i a p = record {
   size = λ j. p .size j + one (sameSample j i);
   recent = λ j. cond (sameSample j i) (take (o .depth) (a ∷ p .recent j)) (p .recent j);
   count = λ j s b. p .count j s b + one (sameSample j i && (leb (countedFrom o) (p .size i) && (begins s (p .recent i) && eqb a b)));
@@ -37,7 +37,7 @@ isFull p i = leb longest (p .size (sampleOf i))
 
 -- "the feed would take the sitting past its reservation"
 abbrev pub pastReservation : Opening → Progress → ℕ → ℕ → Bool
-pastReservation o p i a = ltb (o .reserve) (contextsHeld (sat (o .symbols) (o .depth) (fed o (sampleOf i) a p)))
+pastReservation o p i a = ltb (o .reserve) (contextsHeld (sat (o .symbols) (o .depth) (afterFeed o (sampleOf i) a p)))
 
 -- the refusals of a feed at an open desk
 abbrev pub feedLines : Opening → Progress → ℕ → ℕ → List Line

@@ -6,7 +6,7 @@ use Rattle.chart.specs.declared.Chart.{Chart}
 use Rattle.replay.specs.Room.{Opening}
 use Rattle.replay.specs.Table.{Line}
 use Rattle.replay.specs.Machine.{Rules}
-use Rattle.rules.specs.Feed.{fresh, fed, feedLines}
+use Rattle.rules.specs.Feed.{emptyProgress, afterFeed, feedLines}
 use Rattle.rules.specs.Report.{Reported, report, reportLines}
 use Rattle.rules.specs.Question.{charted, chartLines}
 
@@ -39,9 +39,9 @@ answerOf o p (reporting sheet place) = reported (report (sat (o .symbols) (o .de
 answerOf o p (charting len code a) = point (charted o p len code a)
 
 unfoldable pub nextOf : Opening → Progress → Ask → Progress
-nextOf o p (feed i a) = fed o (sampleOf i) a p
+nextOf o p (feed i a) = afterFeed o (sampleOf i) a p
 nextOf o p (reporting sheet place) = p
 nextOf o p (charting len code a) = p
 
 abbrev pub rules : Rules
-rules = record { State = Progress; Ask = Ask; Answer = Answer; done = done; room = room; fresh = fresh; lines = linesOf; answer = answerOf; next = nextOf }
+rules = record { State = Progress; Ask = Ask; Answer = Answer; done = done; room = room; fresh = emptyProgress; lines = linesOf; answer = answerOf; next = nextOf }

@@ -9,7 +9,7 @@ use lib.Seq.{getD-drop, getD-take, length-take-le}
 use lib.Dec.{ltb}
 use borrow.Author.Tests.{ltb-false}
 use Rattle.sitting_file.specs.Format.{numberAt, andThen, headerOf, symbolsFrom, bodyOf, readOf}
-use Rattle.sitting_file.specs.Samples.{InLimits, symbolsOf, longestHeader, Holds}
+use Rattle.sitting_file.specs.Samples.{InLimits, lastSymbols, longestHeader, Holds}
 use Rattle.sitting_file.specs.declared.Shape.{Shape}
 use Rattle.sitting_file.specs.declared.Refusal.{Refusal}
 use Rattle.sitting_file.specs.declared.Refusal.the-variants.{BytesLeft}
@@ -75,16 +75,16 @@ module _ (file : List ℕ) (shape : Shape) (at : ℕ) (ends : at + (shape .first
   start : length file - (shape .first + shape .second) ≡ at
   start = omega arith
 
-  count : length (symbolsOf file shape) ≡ shape .first + shape .second
+  count : length (lastSymbols file shape) ≡ shape .first + shape .second
   count = length-drop (length file - (shape .first + shape .second)) file ∙ (omega arith)
 
-  symbol : (i : ℕ) → getD (symbolsOf file shape) i 0 ≡ getD file (at + i) 0
+  symbol : (i : ℕ) → getD (lastSymbols file shape) i 0 ≡ getD file (at + i) 0
   symbol i = getD-drop (length file - (shape .first + shape .second)) file i 0 ∙ ap (λ (k : ℕ). getD file (k + i) 0) start
 
   holds : InLimits shape → at ≤ longestHeader → ((i : ℕ) → at ≤ i → i < length file → getD file i 0 < shape .alphabet) → Holds file shape
   holds l place below =
       let n = shape .first in
-      let ss = symbolsOf file shape in
+      let ss = lastSymbols file shape in
       let long = count in
       let first-high = l .first-high in
       let second-high = l .second-high in

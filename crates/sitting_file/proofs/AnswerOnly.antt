@@ -11,7 +11,7 @@ use lib.Dec.{ltb}
 use borrow.Author.Tests.{ltb-true, ltb-false}
 use Rattle.numbers.specs.Limits.{mostSymbols}
 use Rattle.sitting_file.specs.Format.{firstGroup, numberAt, headerOf, symbolsFrom, bodyOf, readOf}
-use Rattle.sitting_file.specs.Verdict.{twoGroups, shortest, written, headed, from-to, nothing, after, Follow, FaultAt, Verdict}
+use Rattle.sitting_file.specs.Verdict.{twoGroups, shortest, written, withHeader, from-to, nothing, dueAfter, Follow, FaultAt, Verdict}
 use Rattle.sitting_file.specs.declared.Shape.{Shape}
 use Rattle.sitting_file.specs.declared.Refusal.{Refusal}
 use Rattle.sitting_file.specs.declared.Refusal.the-variants.{EndsEarly, NotShortest, OutsideLimits, BytesLeft}
@@ -41,7 +41,7 @@ module _ (file : List ℕ) where
   fault-at us rest low high why e f = ap (firstGroup low high (place us)) (ap (drop (place us)) e ∙ drop-append-seam (written us) rest) ∙ fault-found why low high (place us) rest f
 
   -- the header is read, whatever stands after it
-  header-on : (shape : Shape) (ss rest : List ℕ) → file ≡ written (headed shape ss) ++ rest → Follow [] (headed shape ss) → headerOf file ≡ Whole shape (place (headed shape []))
+  header-on : (shape : Shape) (ss rest : List ℕ) → file ≡ written (withHeader shape ss) ++ rest → Follow [] (withHeader shape ss) → headerOf file ≡ Whole shape (place (withHeader shape []))
   header-on shape ss rest e f =
       let A = shape .alphabet in
       let D = shape .depth in
@@ -58,32 +58,32 @@ module _ (file : List ℕ) where
 
     -- the answer from the place after some symbols on
     left : List ℕ → Reading
-    left us = symbolsFrom file shape (wanted - length us) (place (headed shape us))
+    left us = symbolsFrom file shape (wanted - length us) (place (withHeader shape us))
 
-    symbols-on : (us ss rest : List ℕ) → shape .alphabet ≤ mostSymbols → file ≡ written (headed shape (us ++ ss)) ++ rest → Follow (headed shape us) ss → left us ≡ left (us ++ ss)
+    symbols-on : (us ss rest : List ℕ) → shape .alphabet ≤ mostSymbols → file ≡ written (withHeader shape (us ++ ss)) ++ rest → Follow (withHeader shape us) ss → left us ≡ left (us ++ ss)
     unfolding left
     symbols-on us [] rest small e f = ap left (sym (append-nil us))
     symbols-on us (v ∷ ss) rest small e f =
         let d = symbol-due shape us v (f .0) in
-        let here = found (headed shape us) v ss rest 0 (shape .alphabet - 1) e (omega arith) (omega arith) (d .1) in
+        let here = found (withHeader shape us) v ss rest 0 (shape .alphabet - 1) e (omega arith) (omega arith) (d .1) in
         let more : wanted - length us - 1 ≡ wanted - length (us ++ v ∷ []) = simp length-append (omega arith) in
         let regroup : us ++ v ∷ [] ++ ss ≡ us ++ v ∷ ss = append-assoc us (v ∷ []) ss in
-        symbol-read file shape (wanted - length us) _ _ v (omega arith) here ∙ ap (λ (k : ℕ). symbolsFrom file shape k (place (headed shape (us ++ v ∷ [])))) more ∙ symbols-on (us ++ v ∷ []) ss rest small (subst (λ (l : List ℕ). file ≡ written (headed shape l) ++ rest) (sym regroup) e) (f .1) ∙ ap left regroup
+        symbol-read file shape (wanted - length us) _ _ v (omega arith) here ∙ ap (λ (k : ℕ). symbolsFrom file shape k (place (withHeader shape (us ++ v ∷ [])))) more ∙ symbols-on (us ++ v ∷ []) ss rest small (subst (λ (l : List ℕ). file ≡ written (withHeader shape l) ++ rest) (sym regroup) e) (f .1) ∙ ap left regroup
 
     -- the header and the symbols after it are read
-    body-on : (ss rest : List ℕ) → file ≡ written (headed shape ss) ++ rest → Follow [] (headed shape ss) → readOf file ≡ left ss
+    body-on : (ss rest : List ℕ) → file ≡ written (withHeader shape ss) ++ rest → Follow [] (withHeader shape ss) → readOf file ≡ left ss
     unfolding bodyOf left
     body-on ss rest e f =
         let none : wanted ≡ wanted - 0 = omega arith in
-        ap (bodyOf file) (header-on shape ss rest e f) ∙ ap (λ (k : ℕ). symbolsFrom file shape k (place (headed shape []))) none ∙ symbols-on [] ss rest (f .0 .1) e (f .1 .1 .1 .1)
+        ap (bodyOf file) (header-on shape ss rest e f) ∙ ap (λ (k : ℕ). symbolsFrom file shape k (place (withHeader shape []))) none ∙ symbols-on [] ss rest (f .0 .1) e (f .1 .1 .1 .1)
 
     -- a fault where a symbol or the end should stand
-    symbols-faulty : (ss rest : List ℕ) (why : Refusal) → file ≡ written (headed shape ss) ++ rest → FaultAt why (after (headed shape ss)) rest → left ss ≡ Refused why
+    symbols-faulty : (ss rest : List ℕ) (why : Refusal) → file ≡ written (withHeader shape ss) ++ rest → FaultAt why (dueAfter (withHeader shape ss)) rest → left ss ≡ Refused why
     unfolding left
     symbols-faulty ss rest why e f = go (ltb (length ss) wanted) refl f
       where
         left-over : (w : Refusal) → wanted ≤ length ss → FaultAt w nothing rest → left ss ≡ Refused w
-        left-over BytesLeft h g = more-bytes file shape (wanted - length ss) (place (headed shape ss)) (omega arith) (omega (arith, ap length e, length-append (written (headed shape ss)) rest, ap length (g .2)))
+        left-over BytesLeft h g = more-bytes file shape (wanted - length ss) (place (withHeader shape ss)) (omega arith) (omega (arith, ap length e, length-append (written (withHeader shape ss)) rest, ap length (g .2)))
         left-over EndsEarly h g = absurd g
         left-over NotShortest h g = absurd g
         left-over OutsideLimits h g = absurd g
@@ -91,10 +91,10 @@ module _ (file : List ℕ) where
         go : (t : Bool) → ltb (length ss) wanted ≡ t → FaultAt why (cond t (from-to 0 (shape .alphabet - 1)) nothing) rest → left ss ≡ Refused why
         go true t g =
             let due : length ss < wanted = ltb-true _ _ t in
-            symbol-refused file shape (wanted - length ss) _ why (omega arith) (fault-at (headed shape ss) rest 0 (shape .alphabet - 1) why e g)
+            symbol-refused file shape (wanted - length ss) _ why (omega arith) (fault-at (withHeader shape ss) rest 0 (shape .alphabet - 1) why e g)
         go false t g = left-over why (ltb-false _ _ t) g
 
-  refused-only : (why : Refusal) (before rest : List ℕ) → file ≡ written before ++ rest → Follow [] before → FaultAt why (after before) rest → readOf file ≡ Refused why
+  refused-only : (why : Refusal) (before rest : List ℕ) → file ≡ written before ++ rest → Follow [] before → FaultAt why (dueAfter before) rest → readOf file ≡ Refused why
   unfolding bodyOf
   refused-only why [] rest e f g = ap (bodyOf file) (alphabet-refused file why (fault-at [] rest _ _ why e g))
   refused-only why (A ∷ []) rest e f g =
@@ -111,11 +111,11 @@ module _ (file : List ℕ) where
       let shape : Shape = record { alphabet = A; depth = D; first = n; second = m } in
       body-on shape ss rest e f ∙ symbols-faulty shape ss rest why e g
 
-  accepted-only : (shape : Shape) (ss : List ℕ) → file ≡ written (headed shape ss) → Follow [] (headed shape ss) → length ss ≡ shape .first + shape .second → readOf file ≡ Accepted shape
+  accepted-only : (shape : Shape) (ss : List ℕ) → file ≡ written (withHeader shape ss) → Follow [] (withHeader shape ss) → length ss ≡ shape .first + shape .second → readOf file ≡ Accepted shape
   unfolding left
   accepted-only shape ss e f h =
-      let whole : file ≡ written (headed shape ss) ++ [] = e ∙ sym (append-nil (written (headed shape ss))) in
-      body-on shape ss [] whole f ∙ all-read file shape _ (place (headed shape ss)) (omega arith) (omega (arith, ap length e))
+      let whole : file ≡ written (withHeader shape ss) ++ [] = e ∙ sym (append-nil (written (withHeader shape ss))) in
+      body-on shape ss [] whole f ∙ all-read file shape _ (place (withHeader shape ss)) (omega arith) (omega (arith, ap length e))
 
   -- no other answer is true of the file
   pub answer-only : (answer : Reading) → Verdict file answer → answer ≡ readOf file

@@ -9,7 +9,7 @@ use lib.Seq.{drop-at}
 use borrow.Author.Tests.{lt-ltb, le-ltb}
 use Rattle.numbers.specs.Limits.{fewestSymbols, mostSymbols, deepest, longest}
 use Rattle.sitting_file.specs.Format.{firstGroup, numberAt, andThen, headerOf, symbolsFrom, bodyOf, readOf}
-use Rattle.sitting_file.specs.Verdict.{Bytes, shortest, written, headed, Due, from-to, after, Fits, Follow, FaultAt, FaultIn, Verdict}
+use Rattle.sitting_file.specs.Verdict.{Bytes, shortest, written, withHeader, Due, from-to, dueAfter, Fits, Follow, FaultAt, FaultIn, Verdict}
 use Rattle.sitting_file.specs.declared.Shape.{Shape}
 use Rattle.sitting_file.specs.declared.Refusal.{Refusal}
 use Rattle.sitting_file.specs.declared.Number.{Number}
@@ -34,7 +34,7 @@ module _ (file : List ℕ) where
 
   -- a number that is found leads to the next place, and a fault is the answer
   module _ {R : Type 0} (P : R → Type 0) (stop : Refusal → R) (stopped : (why : Refusal) → FaultIn file why → P (stop why)) where
-    step : (before : List ℕ) (at low high : ℕ) → after before ≡ from-to low high → Reached file before at → (go : ℕ → ℕ → R) → ((v next : ℕ) → Reached file (before ++ v ∷ []) next → P (go v next)) → P (andThen (numberAt file at low high) stop go)
+    step : (before : List ℕ) (at low high : ℕ) → dueAfter before ≡ from-to low high → Reached file before at → (go : ℕ → ℕ → R) → ((v next : ℕ) → Reached file (before ++ v ∷ []) next → P (go v next)) → P (andThen (numberAt file at low high) stop go)
     step before at low high e r go onward = subst (λ (l : List ℕ). P (andThen (firstGroup low high at l) stop go)) (sym (here before at r)) (by (firstGroup low high at (r .rest)) (number-says low high at (r .rest) (r .bytes)))
       where
         by : (n : Number) → Says low high at (r .rest) n → P (andThen n stop go)
@@ -52,27 +52,27 @@ module _ (file : List ℕ) where
               bytes = f .left;
             })
 
-  symbols-true : (shape : Shape) (ss : List ℕ) (left at : ℕ) → length ss + left ≡ shape .first + shape .second → Reached file (headed shape ss) at → Verdict file (symbolsFrom file shape left at)
+  symbols-true : (shape : Shape) (ss : List ℕ) (left at : ℕ) → length ss + left ≡ shape .first + shape .second → Reached file (withHeader shape ss) at → Verdict file (symbolsFrom file shape left at)
   unfolding symbolsFrom
   symbols-true shape ss zero at h r = go (r .rest) (r .split)
     where
-      go : (rest : List ℕ) → file ≡ written (headed shape ss) ++ rest → Verdict file (symbolsFrom file shape zero at)
+      go : (rest : List ℕ) → file ≡ written (withHeader shape ss) ++ rest → Verdict file (symbolsFrom file shape zero at)
       go [] e =
-          let whole : file ≡ written (headed shape ss) = e ∙ append-nil (written (headed shape ss)) in
+          let whole : file ≡ written (withHeader shape ss) = e ∙ append-nil (written (withHeader shape ss)) in
           let long : length file ≡ at = ap length whole ∙ sym (r .place) in
           rw (le-ltb at (length file) (omega arith)) (follow-format shape file ss (r .follow) (omega arith) whole)
       go (b ∷ more) e =
-          let long : length file ≡ length (written (headed shape ss)) + suc (length more) = ap length e ∙ length-append (written (headed shape ss)) (b ∷ more) in
+          let long : length file ≡ length (written (withHeader shape ss)) + suc (length more) = ap length e ∙ length-append (written (withHeader shape ss)) (b ∷ more) in
           let place = r .place in
           rw (lt-ltb at (length file) (omega arith))
-          (record { before = headed shape ss; rest = b ∷ more; split = e; follow = r .follow; fault = rw (le-ltb (length ss) (shape .first + shape .second) (omega arith)) (b, more, refl) })
+          (record { before = withHeader shape ss; rest = b ∷ more; split = e; follow = r .follow; fault = rw (le-ltb (length ss) (shape .first + shape .second) (omega arith)) (b, more, refl) })
   symbols-true shape ss (suc left) at h r =
-      step (Verdict file) Refused (λ why f. f) (headed shape ss) at 0 (shape .alphabet - 1) (rw (lt-ltb (length ss) (shape .first + shape .second) (omega arith))) r (λ _ next. symbolsFrom file shape left next)
+      step (Verdict file) Refused (λ why f. f) (withHeader shape ss) at 0 (shape .alphabet - 1) (rw (lt-ltb (length ss) (shape .first + shape .second) (omega arith))) r (λ _ next. symbolsFrom file shape left next)
       (λ v next q. symbols-true shape (ss ++ v ∷ []) left next (simp length-append (omega arith)) q)
 
   -- a header is a place, or stops at the fault
   Heads : Heading → Type 0
-  Heads (Whole shape at) = Reached file (headed shape []) at
+  Heads (Whole shape at) = Reached file (withHeader shape []) at
   Heads (Faulty why) = FaultIn file why
 
   header-true : Bytes file → Heads (headerOf file)

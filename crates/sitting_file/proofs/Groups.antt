@@ -10,7 +10,7 @@ use lib.ListN.{length, getD, drop, length-drop}
 use lib.Seq.{getD-drop}
 use lib.Dec.{leb, eqb}
 use borrow.Author.Tests.{leb-true, leb-false, eqb-true, eqb-false}
-use Rattle.sitting_file.specs.Format.{highBit, joined, judged, secondGroup, firstGroup, numberAt}
+use Rattle.sitting_file.specs.Format.{highBit, joined, judgedNumber, secondGroup, firstGroup, numberAt}
 use Rattle.sitting_file.specs.declared.Refusal.{Refusal}
 use Rattle.sitting_file.specs.declared.Refusal.the-variants.{EndsEarly, NotShortest, OutsideLimits}
 use Rattle.sitting_file.specs.declared.Number.{Number}
@@ -30,8 +30,8 @@ pub data Told (low high at : ℕ) : List ℕ → Number → Type 0 where
   inside : {v next : ℕ} {bytes : List ℕ} → Stands at v next bytes → low ≤ v → v ≤ high → Told low high at bytes (Value v next)
 
 module _ (low high at : ℕ) where
-  judged-tells : (v next : ℕ) (bytes : List ℕ) → Stands at v next bytes → Told low high at bytes (judged low high v next)
-  unfolding judged
+  judged-tells : (v next : ℕ) (bytes : List ℕ) → Stands at v next bytes → Told low high at bytes (judgedNumber low high v next)
+  unfolding judgedNumber
   judged-tells v next bytes s = go (leb low v) (leb v high) refl refl
     where
       go : (p q : Bool) → leb low v ≡ p → leb v high ≡ q → Told low high at bytes (cond (p && q) (Value v next) (Fault OutsideLimits))
@@ -44,7 +44,7 @@ module _ (low high at : ℕ) where
   second-tells b [] big = half big
   second-tells b (c ∷ rest) big = go (leb highBit c) (eqb c 0) refl refl
     where
-      go : (p q : Bool) → leb highBit c ≡ p → eqb c 0 ≡ q → Told low high at (b ∷ c ∷ rest) (cond (p || q) (Fault NotShortest) (judged low high (joined b c) (at + 1 + 1)))
+      go : (p q : Bool) → leb highBit c ≡ p → eqb c 0 ≡ q → Told low high at (b ∷ c ∷ rest) (cond (p || q) (Fault NotShortest) (judgedNumber low high (joined b c) (at + 1 + 1)))
       go true q h z = not-short big (inl (leb-true highBit c h))
       go false true h z = not-short big (inr (eqb-true c 0 z))
       go false false h z =
@@ -56,7 +56,7 @@ module _ (low high at : ℕ) where
   tells [] = no-group
   tells (b ∷ rest) = go (leb highBit b) refl
     where
-      go : (p : Bool) → leb highBit b ≡ p → Told low high at (b ∷ rest) (cond p (secondGroup low high b (at + 1) rest) (judged low high b (at + 1)))
+      go : (p : Bool) → leb highBit b ≡ p → Told low high at (b ∷ rest) (cond p (secondGroup low high b (at + 1) rest) (judgedNumber low high b (at + 1)))
       go true h = second-tells b rest (leb-true highBit b h)
       go false h = judged-tells b (at + 1) (b ∷ rest) (one (leb-false highBit b h))
 

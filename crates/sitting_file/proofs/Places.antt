@@ -7,7 +7,7 @@ use native.Mathlib.Omega.{arith}
 use lib.ListN.{length, getD, drop, drop-of-length-le}
 use lib.Seq.{drop-cons}
 use borrow.Author.Tests.{lt-ltb, le-ltb, le-leb, lt-leb, eq-eqb, ne-eqb}
-use Rattle.sitting_file.specs.Format.{highBit, joined, judged, secondGroup, firstGroup, numberAt, symbolsFrom}
+use Rattle.sitting_file.specs.Format.{highBit, joined, judgedNumber, secondGroup, firstGroup, numberAt, symbolsFrom}
 use Rattle.sitting_file.specs.declared.Shape.{Shape}
 use Rattle.sitting_file.specs.declared.Refusal.{Refusal}
 use Rattle.sitting_file.specs.declared.Refusal.the-variants.{EndsEarly, NotShortest, OutsideLimits, BytesLeft}
@@ -17,16 +17,16 @@ use Rattle.sitting_file.specs.declared.Reading.the-variants.{Accepted, R
 -- ---- a whole number and its limits
 
 module _ (low high v next : ℕ) where
-  pub below-low : v < low → judged low high v next ≡ Fault OutsideLimits
-  unfolding judged
+  pub below-low : v < low → judgedNumber low high v next ≡ Fault OutsideLimits
+  unfolding judgedNumber
   below-low h = rw (lt-leb low v h)
 
-  pub above-high : low ≤ v → high < v → judged low high v next ≡ Fault OutsideLimits
-  unfolding judged
+  pub above-high : low ≤ v → high < v → judgedNumber low high v next ≡ Fault OutsideLimits
+  unfolding judgedNumber
   above-high h k = rw (le-leb low v h, lt-leb v high k)
 
-  pub inside : low ≤ v → v ≤ high → judged low high v next ≡ Value v next
-  unfolding judged
+  pub inside : low ≤ v → v ≤ high → judgedNumber low high v next ≡ Value v next
+  unfolding judgedNumber
   inside h k = rw (le-leb low v h, le-leb v high k)
 
 -- ---- the groups of a number
@@ -43,7 +43,7 @@ module _ (file : List ℕ) (at low high : ℕ) where
   unfolding firstGroup
   no-byte h = rw (drop-of-length-le file h)
 
-  pub one-group : at < length file → byte < highBit → numberAt file at low high ≡ judged low high byte (at + 1)
+  pub one-group : at < length file → byte < highBit → numberAt file at low high ≡ judgedNumber low high byte (at + 1)
   unfolding firstGroup
   one-group h k = rw (here h, lt-leb highBit byte k)
 
@@ -60,7 +60,7 @@ module _ (file : List ℕ) (at low high : ℕ) where
     unfolding secondGroup
     empty-group h z = rw (here h, lt-leb highBit byte (omega arith), eq-eqb byte 0 z)
 
-    pub both-groups : at < length file → (byte ≡ 0 → ⊥) → byte < highBit → secondGroup low high b at (drop at file) ≡ judged low high (joined b byte) (at + 1)
+    pub both-groups : at < length file → (byte ≡ 0 → ⊥) → byte < highBit → secondGroup low high b at (drop at file) ≡ judgedNumber low high (joined b byte) (at + 1)
     unfolding secondGroup
     both-groups h z k = rw (here h, lt-leb highBit byte k, ne-eqb byte 0 z)
 

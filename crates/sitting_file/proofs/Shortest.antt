@@ -8,7 +8,7 @@ use native.Mathlib.Omega.{arith}
 use lib.ListN.{length}
 use lib.Dec.{ltb, leb, eqb}
 use borrow.Author.Tests.{ltb-true, ltb-false, leb-true, leb-false, lt-ltb, le-ltb, le-leb, lt-leb, eq-eqb, ne-eqb}
-use Rattle.sitting_file.specs.Format.{highBit, joined, judged, secondGroup, firstGroup}
+use Rattle.sitting_file.specs.Format.{highBit, joined, judgedNumber, secondGroup, firstGroup}
 use Rattle.sitting_file.specs.Verdict.{Bytes, twoGroups, shortest, from-to, FaultAt}
 use Rattle.sitting_file.specs.declared.Refusal.{Refusal}
 use Rattle.sitting_file.specs.declared.Refusal.the-variants.{EndsEarly, NotShortest, OutsideLimits, BytesLeft}
@@ -26,11 +26,11 @@ unfolding shortest
 two-bytes v h = simp (le-ltb v highBit h)
 
 -- a shortest form is read back as its number, which is then judged
-pub read-back : (low high at v : ℕ) (rest : List ℕ) → v < twoGroups → firstGroup low high at (shortest v ++ rest) ≡ judged low high v (at + length (shortest v))
+pub read-back : (low high at v : ℕ) (rest : List ℕ) → v < twoGroups → firstGroup low high at (shortest v ++ rest) ≡ judgedNumber low high v (at + length (shortest v))
 unfolding firstGroup secondGroup
 read-back low high at v rest h = go (ltb v highBit) refl
   where
-    go : (t : Bool) → ltb v highBit ≡ t → firstGroup low high at (shortest v ++ rest) ≡ judged low high v (at + length (shortest v))
+    go : (t : Bool) → ltb v highBit ≡ t → firstGroup low high at (shortest v ++ rest) ≡ judgedNumber low high v (at + length (shortest v))
     go true e =
         let small : v < highBit = ltb-true v highBit e in
         rw (one-byte v small, lt-leb highBit v small)
@@ -89,16 +89,16 @@ fault-found NotShortest low high at bytes f = rw (f .5, le-leb highBit (f .0) (f
     or-true true = refl
     or-true false = refl
 
-    go : (highBit ≤ f .1) ⊎ (f .1 ≡ 0) → cond (leb highBit (f .1) || eqb (f .1) 0) (Fault NotShortest) (judged low high (joined (f .0) (f .1)) (at + 1 + 1)) ≡ Fault NotShortest
+    go : (highBit ≤ f .1) ⊎ (f .1 ≡ 0) → cond (leb highBit (f .1) || eqb (f .1) 0) (Fault NotShortest) (judgedNumber low high (joined (f .0) (f .1)) (at + 1 + 1)) ≡ Fault NotShortest
     go (inl h) = rw (le-leb highBit (f .1) h)
     go (inr z) = rw (eq-eqb (f .1) 0 z, or-true (leb highBit (f .1)))
 fault-found OutsideLimits low high at bytes f = ap (firstGroup low high at) (f .4) ∙ read-back low high at (f .0) (f .1) (f .2) ∙ go (f .3)
   where
-    far : (t : Bool) → leb low (f .0) ≡ t → high < f .0 → judged low high (f .0) (at + length (shortest (f .0))) ≡ Fault OutsideLimits
+    far : (t : Bool) → leb low (f .0) ≡ t → high < f .0 → judgedNumber low high (f .0) (at + length (shortest (f .0))) ≡ Fault OutsideLimits
     far true e h = above-high low high (f .0) _ (leb-true low (f .0) e) h
     far false e h = below-low low high (f .0) _ (leb-false low (f .0) e)
 
-    go : (f .0 < low) ⊎ (high < f .0) → judged low high (f .0) (at + length (shortest (f .0))) ≡ Fault OutsideLimits
+    go : (f .0 < low) ⊎ (high < f .0) → judgedNumber low high (f .0) (at + length (shortest (f .0))) ≡ Fault OutsideLimits
     go (inl h) = below-low low high (f .0) _ h
     go (inr h) = far (leb low (f .0)) refl h
 fault-found BytesLeft low high at bytes f = absurd f

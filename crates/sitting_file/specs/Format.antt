@@ -28,26 +28,26 @@ abbrev pub highBit : ℕ
 highBit = 128
 
 -- "high bit set where another group follows"
-abbrev pub goesOn : ℕ → Bool
-goesOn b = leb highBit b
+abbrev pub groupFollows : ℕ → Bool
+groupFollows b = leb highBit b
 
 -- "groups of seven bits, lowest first": the number of a first group that goes on and a second that does not
 abbrev pub joined : ℕ → ℕ → ℕ
 joined b c = b - highBit + highBit * c
 
 -- a number that has been read whole, judged by its limits, with the place after it
-unfoldable pub judged : ℕ → ℕ → ℕ → ℕ → Number
-judged low high v next = cond (leb low v && leb v high) (Value v next) (Fault OutsideLimits)
+unfoldable pub judgedNumber : ℕ → ℕ → ℕ → ℕ → Number
+judgedNumber low high v next = cond (leb low v && leb v high) (Value v next) (Fault OutsideLimits)
 
 -- the second group, judged at that byte: it ends the number, and is not 0
 unfoldable pub secondGroup : ℕ → ℕ → ℕ → ℕ → List ℕ → Number
 secondGroup low high b at [] = Fault EndsEarly
-secondGroup low high b at (c ∷ rest) = cond (goesOn c || eqb c 0) (Fault NotShortest) (judged low high (joined b c) (at + 1))
+secondGroup low high b at (c ∷ rest) = cond (groupFollows c || eqb c 0) (Fault NotShortest) (judgedNumber low high (joined b c) (at + 1))
 
 -- the number that the bytes from a place on begin with
 unfoldable pub firstGroup : ℕ → ℕ → ℕ → List ℕ → Number
 firstGroup low high at [] = Fault EndsEarly
-firstGroup low high at (b ∷ rest) = cond (goesOn b) (secondGroup low high b (at + 1) rest) (judged low high b (at + 1))
+firstGroup low high at (b ∷ rest) = cond (groupFollows b) (secondGroup low high b (at + 1) rest) (judgedNumber low high b (at + 1))
 
 -- the number, low to high, that stands at a place of the file
 abbrev pub numberAt : List ℕ → ℕ → ℕ → ℕ → Number

@@ -19,15 +19,15 @@ abbrev pub Below : ℕ → List ℕ → Type 0
 Below A symbols = (i : ℕ) → i < length symbols → getD symbols i 0 < A
 
 -- "the symbols are then the file's last n + m bytes, one each"
-abbrev pub symbolsOf : List ℕ → Shape → List ℕ
-symbolsOf file shape = drop (length file - (shape .first + shape .second)) file
+abbrev pub lastSymbols : List ℕ → Shape → List ℕ
+lastSymbols file shape = drop (length file - (shape .first + shape .second)) file
 
 -- the first n of them are the first sample, the m after them the second
 abbrev pub firstOf : List ℕ → Shape → List ℕ
-firstOf file shape = take (shape .first) (symbolsOf file shape)
+firstOf file shape = take (shape .first) (lastSymbols file shape)
 
 abbrev pub secondOf : List ℕ → Shape → List ℕ
-secondOf file shape = drop (shape .first) (symbolsOf file shape)
+secondOf file shape = drop (shape .first) (lastSymbols file shape)
 
 -- A and D take a byte each, n and m at most two
 abbrev pub longestHeader : ℕ

@@ -35,8 +35,8 @@ written (v ∷ vs) = shortest v ++ written vs
 
 -- ---- accepted
 
-abbrev pub headed : Shape → List ℕ → List ℕ
-headed shape symbols = shape .alphabet ∷ shape .depth ∷ shape .first ∷ shape .second ∷ symbols
+abbrev pub withHeader : Shape → List ℕ → List ℕ
+withHeader shape symbols = shape .alphabet ∷ shape .depth ∷ shape .first ∷ shape .second ∷ symbols
 
 -- "The file: A, D, n, m, n symbols, m symbols", each within its limits
 pub record OfFormat (file : List ℕ) (shape : Shape) : Type 0 where
@@ -44,7 +44,7 @@ pub record OfFormat (file : List ℕ) (shape : Shape) : Type 0 where
   pub limits : InLimits shape
   pub count : length symbols ≡ shape .first + shape .second
   pub below : Below (shape .alphabet) symbols
-  pub bytes : file ≡ written (headed shape symbols)
+  pub bytes : file ≡ written (withHeader shape symbols)
 
 -- ---- refused
 
@@ -53,12 +53,12 @@ pub data Due : Type 0 where
   from-to : ℕ → ℕ → Due
   nothing : Due
 
-abbrev pub after : List ℕ → Due
-after [] = from-to fewestSymbols mostSymbols
-after (A ∷ []) = from-to 0 deepest
-after (A ∷ D ∷ []) = from-to 0 longest
-after (A ∷ D ∷ n ∷ []) = from-to 0 longest
-after (A ∷ D ∷ n ∷ m ∷ symbols) = cond (ltb (length symbols) (n + m)) (from-to 0 (A - 1)) nothing
+abbrev pub dueAfter : List ℕ → Due
+dueAfter [] = from-to fewestSymbols mostSymbols
+dueAfter (A ∷ []) = from-to 0 deepest
+dueAfter (A ∷ D ∷ []) = from-to 0 longest
+dueAfter (A ∷ D ∷ n ∷ []) = from-to 0 longest
+dueAfter (A ∷ D ∷ n ∷ m ∷ symbols) = cond (ltb (length symbols) (n + m)) (from-to 0 (A - 1)) nothing
 
 -- a number is due, and v is within its limits
 abbrev pub Fits : Due → ℕ → Type 0
@@ -68,7 +68,7 @@ Fits nothing v = ⊥
 -- the numbers vs, which come after us, are within the limits that the numbers before each of them set
 abbrev pub Follow : List ℕ → List ℕ → Type 0
 Follow us [] = Unit {0}
-Follow us (v ∷ vs) = Fits (after us) v × Follow (us ++ v ∷ []) vs
+Follow us (v ∷ vs) = Fits (dueAfter us) v × Follow (us ++ v ∷ []) vs
 
 -- 13: "file ends before its last number, header or symbol, is complete": no byte is left, or a first group that goes on
 abbrev pub Ends : Due → List ℕ → Type 0
@@ -103,7 +103,7 @@ pub record FaultIn (file : List ℕ) (why : Refusal) : Type 0 where
   pub rest : List ℕ
   pub split : file ≡ written before ++ rest
   pub follow : Follow [] before
-  pub fault : FaultAt why (after before) rest
+  pub fault : FaultAt why (dueAfter before) rest
 
 -- what an answer says of the file
 abbrev pub Verdict : List ℕ → Reading → Type 0

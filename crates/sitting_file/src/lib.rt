@@ -1,7 +1,7 @@
 // Reads sitting files: A, D, n, m, n symbols, m symbols, each a number in groups of seven bits.
 ghost use mathlib.Core.Path.{_≡_};
 ghost use Prim.Native.Nat.{_+_};
-ghost use Rattle.sitting_file.specs.Format.{refusalNumber, judged, numberAt, headerOf, symbolsFrom, readOf};
+ghost use Rattle.sitting_file.specs.Format.{refusalNumber, judgedNumber, numberAt, headerOf, symbolsFrom, readOf};
 ghost use Rattle.sitting_file.specs.Samples.{InLimits};
 use numbers::DEEPEST;
 use numbers::FEWEST_SYMBOLS;
@@ -147,7 +147,7 @@ fn number_at(file: &[u8], at: usize, low: u32, high: u32) -> Number
 
 // A number that has been read whole, judged by its limits.
 fn judged(low: u32, high: u32, value: u32, next: usize) -> Number
-    ensures { λ r. ⌜ r ≡ judged low high value next ⌝ }
+    ensures { λ r. ⌜ r ≡ judgedNumber low high value next ⌝ }
 {
     if value < low {
         return Number::Fault(Refusal::OutsideLimits);

@@ -21,7 +21,7 @@ use Rattle.records.specs.Held.{keep, ofDesk}
 use Rattle.records.proofs.Parts.{length-parts}
 use Rattle.store.specs.Layout.{headerSize, totalOf}
 use Rattle.store.specs.Sound.{heldBy, deskTest}
-use Rattle.store.specs.Walk.{walk, stepOk, after, marked, start, tallyOk, passb}
+use Rattle.store.specs.Walk.{walked, stepOk, after, seenMark, start, tallyOk, passb}
 use Rattle.store.proofs.Walking.{step-desk}
 
 -- ---- one record, and the others
@@ -47,18 +47,18 @@ module _ (rs : List (List ℕ)) (i : ℕ) where
 
   pub walk-step : (s : List ℕ) (lo : ℕ) (p q : List ℕ) → i < length rs → (r : List ℕ) → r ≡ getD rs i []
       → stepOk s lo (getD p (lenOf (key r)) 0) (getD q (lenOf (key r)) 0) r ≡ true
-      → walk s lo p q (drop i rs) ≡ walk s (key r + 1) (after first r p) (after second r q) (drop (i + 1) rs)
-  unfolding walk
-  walk-step s lo p q h r e good = ap (walk s lo p q) (cons-at rs i [] h ∙ ap (λ (x : List ℕ). x ∷ drop (i + 1) rs) (sym e)) ∙ rw good
+      → walked s lo p q (drop i rs) ≡ walked s (key r + 1) (after first r p) (after second r q) (drop (i + 1) rs)
+  unfolding walked
+  walk-step s lo p q h r e good = ap (walked s lo p q) (cons-at rs i [] h ∙ ap (λ (x : List ℕ). x ∷ drop (i + 1) rs) (sym e)) ∙ rw good
 
   pub walk-bad : (s : List ℕ) (lo : ℕ) (p q : List ℕ) → i < length rs → (r : List ℕ) → r ≡ getD rs i []
-      → stepOk s lo (getD p (lenOf (key r)) 0) (getD q (lenOf (key r)) 0) r ≡ false → walk s lo p q (drop i rs) ≡ false
-  unfolding walk
-  walk-bad s lo p q h r e bad = ap (walk s lo p q) (cons-at rs i [] h ∙ ap (λ (x : List ℕ). x ∷ drop (i + 1) rs) (sym e)) ∙ rw bad
+      → stepOk s lo (getD p (lenOf (key r)) 0) (getD q (lenOf (key r)) 0) r ≡ false → walked s lo p q (drop i rs) ≡ false
+  unfolding walked
+  walk-bad s lo p q h r e bad = ap (walked s lo p q) (cons-at rs i [] h ∙ ap (λ (x : List ℕ). x ∷ drop (i + 1) rs) (sym e)) ∙ rw bad
 
-  pub walk-end : (s : List ℕ) (lo : ℕ) (p q : List ℕ) → i ≡ length rs → walk s lo p q (drop i rs) ≡ true
-  unfolding walk
-  walk-end s lo p q e = ap (walk s lo p q) (none-at rs i e)
+  pub walk-end : (s : List ℕ) (lo : ℕ) (p q : List ℕ) → i ≡ length rs → walked s lo p q (drop i rs) ≡ true
+  unfolding walked
+  walk-end s lo p q e = ap (walked s lo p q) (none-at rs i e)
 
 -- ---- the pass
 
@@ -72,7 +72,7 @@ pub record Turn (s body : List ℕ) (n : ℕ) (p q tally : List ℕ) (lo i : ℕ
   pub long-t : length tally ≡ desks
   pub small : (d : ℕ) → getD tally d 0 ≤ i
   pub tallied : (d : ℕ) → d < desks → getD tally d 0 + heldBy d (drop i (records n body)) ≡ heldBy d (records n body)
-  pub same : walk s lo p q (drop i (records n body)) ≡ walk s 0 start start (records n body)
+  pub same : walked s lo p q (drop i (records n body)) ≡ walked s 0 start start (records n body)
 
 pub turn-start : (s body : List ℕ) (n : ℕ) → headerSize ≤ length s → width * n ≤ length body → n ≤ mostRoom → Turn s body n (replicate 9 0) (replicate 9 0) (replicate 8 0) 0 0
 turn-start s body n h b f = record {
@@ -95,7 +95,7 @@ module _ (s body : List ℕ) (n : ℕ) (p q tally : List ℕ) (lo i : ℕ) (t : 
   -- the records before have passed, and so has this one
   pub turn-next : i < n → (r : List ℕ) → r ≡ getD (records n body) i []
       → stepOk s lo (getD p (lenOf (key r)) 0) (getD q (lenOf (key r)) 0) r ≡ true
-      → (x y : ℕ) → x ≡ marked (key r) (totalOf first r) → y ≡ marked (key r) (totalOf second r)
+      → (x y : ℕ) → x ≡ seenMark (key r) (totalOf first r) → y ≡ seenMark (key r) (totalOf second r)
       → Turn s body n (set p (lenOf (key r) + 1) x) (set q (lenOf (key r) + 1) y) (set tally (deskOf (key r)) (getD tally (deskOf (key r)) 0 + 1)) (key r + 1) (i + 1)
   turn-next h r e good x y ex ey = record {
     inside = h′;
@@ -147,7 +147,7 @@ module _ (s body : List ℕ) (n : ℕ) (p q tally : List ℕ) (lo i : ℕ) (t : 
       → stepOk s lo (getD p (lenOf (key r)) 0) (getD q (lenOf (key r)) 0) r ≡ false → false ≡ passb s (records n body)
   unfolding passb
   turn-bad h r e bad =
-      let none : walk s 0 start start (records n body) ≡ false = sym (t .same) ∙ walk-bad (records n body) i s lo p q (inside-records h) r e bad in
+      let none : walked s 0 start start (records n body) ≡ false = sym (t .same) ∙ walk-bad (records n body) i s lo p q (inside-records h) r e bad in
       rw none
 
   -- at the end the tally has the number of each desk's records, and the desks' tests decide
@@ -155,6 +155,6 @@ module _ (s body : List ℕ) (n : ℕ) (p q tally : List ℕ) (lo i : ℕ) (t : 
   unfolding passb
   turn-end e =
       let last : i ≡ length (records n body) = e ∙ sym (length-parts width n body) in
-      let done : walk s 0 start start (records n body) ≡ true = sym (t .same) ∙ walk-end (records n body) i s lo p q last in
+      let done : walked s 0 start start (records n body) ≡ true = sym (t .same) ∙ walk-end (records n body) i s lo p q last in
       let many : (d : ℕ) → d < desks → getD tally d 0 ≡ heldBy d (records n body) = λ d u. omega (arith, t .tallied d u, held-end (records n body) i d last) in
       rw done (every-cong desks (λ d u. ap (deskTest s d) (many d u)))

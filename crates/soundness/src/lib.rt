@@ -10,7 +10,7 @@ ghost use Rattle.contexts.specs.Keys.{deskOf, deskSpan, weight};
 ghost use Rattle.contexts.specs.Sitting.{sumOf};
 ghost use Rattle.store.specs.Layout.{headerSize};
 ghost use Rattle.store.specs.Sound.{soundb, below, frameOk, limitsOk, slotsOk, deskTest, reservedAt, quietFrom, countsOk, tableOk};
-ghost use Rattle.store.specs.Walk.{largestSum, Summed, oldestOk, endsOk, upMark, keyFits, marked, markOk, stepOk, tallyOk, passb};
+ghost use Rattle.store.specs.Walk.{largestSum, Summed, oldestOk, endsOk, upMark, keyFits, seenMark, markOk, stepOk, tallyOk, passb};
 use numbers::DEEPEST;
 use numbers::DESKS;
 use numbers::FEWEST_SYMBOLS;
@@ -251,7 +251,7 @@ fn mark_ok(seen: u64, mark: u32, up: u32) -> bool
 // The mark of a key in a sample that has seen it `seen` times.
 fn mark(key: u32, seen: u64) -> u32
     requires { ⌜ key < desks * deskSpan ⌝ }
-    ensures { λ r. ⌜ r ≡ marked key seen ⌝ }
+    ensures { λ r. ⌜ r ≡ seenMark key seen ⌝ }
 {
     if 0 < seen {
         return key + 1;

@@ -19,7 +19,7 @@ use Rattle.records.proofs.Rising.{rises-first, rises-rest}
 use Rattle.records.proofs.Finding.{lookup-tail}
 use Rattle.store.specs.Layout.{isOpen, symbolsAt, depthAt}
 use Rattle.store.specs.Sound.{eachSample, parentOk, tableOk}
-use Rattle.store.specs.Walk.{oldestOk, endsOk, keyFits, ownOk, stepOk, after, walk, start}
+use Rattle.store.specs.Walk.{oldestOk, endsOk, keyFits, ownOk, stepOk, after, walked, start}
 use Rattle.store.proofs.Marks.{Rest, Kept, kept-start, kept-next, mark-parent}
 
 -- a record's own test, and its parent looked up
@@ -59,8 +59,8 @@ step-desk s lo p q r t = own-key s r (left (ownOk s r) _ (right (leb lo (key r))
 
 -- records that rise: the walk is their tests
 agree : (s : List ℕ) (rs : List (List ℕ)) (lo : ℕ) (p q : List ℕ) (rest : List (List ℕ)) → T (rises lo (keys rest)) → Rest rs lo rest
-    → Kept rs first lo p → Kept rs second lo q → walk s lo p q rest ≡ all (fitOk s rs) rest
-unfolding walk all stepOk fitOk
+    → Kept rs first lo p → Kept rs second lo q → walked s lo p q rest ≡ all (fitOk s rs) rest
+unfolding walked all stepOk fitOk
 agree s rs lo p q [] up there kp kq = refl
 agree s rs lo p q (r ∷ rest) up there kp kq = go (ownOk s r) refl
     (λ ends. agree s rs (key r + 1) (after first r p) (after second r q) rest (rw (add-one (key r)) (rises-rest lo (key r) (keys rest) up))
@@ -68,8 +68,8 @@ agree s rs lo p q (r ∷ rest) up there kp kq = go (ownOk s r) refl
     (kept-next rs first lo p r rest up there kp ends) (kept-next rs second lo q r rest up there kq ends))
   where
     go : (t : Bool) → ownOk s r ≡ t
-        → (Ends (key r) → walk s (key r + 1) (after first r p) (after second r q) rest ≡ all (fitOk s rs) rest)
-        → walk s lo p q (r ∷ rest) ≡ all (fitOk s rs) (r ∷ rest)
+        → (Ends (key r) → walked s (key r + 1) (after first r p) (after second r q) rest ≡ all (fitOk s rs) rest)
+        → walked s lo p q (r ∷ rest) ≡ all (fitOk s rs) (r ∷ rest)
     go false e ih = rw (le-leb lo (key r) (rises-first lo (key r) (keys rest) up), e)
     go true e ih =
         let fits = own-key s r (of-true (ownOk s r) e) in
@@ -78,8 +78,8 @@ agree s rs lo p q (r ∷ rest) up there kp kq = go (ownOk s r) refl
         rw (le-leb lo (key r) (rises-first lo (key r) (keys rest) up), e, one, two, ih (fits .ends))
 
 -- a walk that passes rises
-walk-rises : (s : List ℕ) (lo : ℕ) (p q : List ℕ) (rest : List (List ℕ)) → T (walk s lo p q rest) → T (rises lo (keys rest))
-unfolding walk stepOk rises
+walk-rises : (s : List ℕ) (lo : ℕ) (p q : List ℕ) (rest : List (List ℕ)) → T (walked s lo p q rest) → T (rises lo (keys rest))
+unfolding walked stepOk rises
 walk-rises s lo p q [] t = tt
 walk-rises s lo p q (r ∷ rest) t =
     let here = left (stepOk s lo (getD p (lenOf (key r)) 0) (getD q (lenOf (key r)) 0) r) _ t in
@@ -87,13 +87,13 @@ walk-rises s lo p q (r ∷ rest) t =
     both (leb lo (key r)) (rises (suc (key r)) (keys rest)) (left (leb lo (key r)) _ here) (rw (add-one (key r)) at tail)
 
 -- THEOREM. The walk is the order of the records and each record's test with its parent looked up
-pub walk-is : (s : List ℕ) (rs : List (List ℕ)) → walk s 0 start start rs ≡ rises 0 (keys rs) && all (fitOk s rs) rs
+pub walk-is : (s : List ℕ) (rs : List (List ℕ)) → walked s 0 start start rs ≡ rises 0 (keys rs) && all (fitOk s rs) rs
 walk-is s rs = go (rises 0 (keys rs)) refl
   where
-    none : (t : Bool) → walk s 0 start start rs ≡ t → rises 0 (keys rs) ≡ false → t ≡ false
-    none true e f = sym (is-true (rises 0 (keys rs)) (walk-rises s 0 start start rs (of-true (walk s 0 start start rs) e))) ∙ f
+    none : (t : Bool) → walked s 0 start start rs ≡ t → rises 0 (keys rs) ≡ false → t ≡ false
+    none true e f = sym (is-true (rises 0 (keys rs)) (walk-rises s 0 start start rs (of-true (walked s 0 start start rs) e))) ∙ f
     none false e f = refl
 
-    go : (t : Bool) → rises 0 (keys rs) ≡ t → walk s 0 start start rs ≡ t && all (fitOk s rs) rs
+    go : (t : Bool) → rises 0 (keys rs) ≡ t → walked s 0 start start rs ≡ t && all (fitOk s rs) rs
     go true e = agree s rs 0 start start rs (of-true (rises 0 (keys rs)) e) (λ k h. refl) (kept-start rs first) (kept-start rs second)
-    go false e = none (walk s 0 start start rs) refl e
+    go false e = none (walked s 0 start start rs) refl e

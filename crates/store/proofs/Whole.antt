@@ -15,7 +15,7 @@ use Rattle.records.specs.Records.{keys, rises, width}
 use Rattle.records.proofs.Lent.{tail-lent}
 use Rattle.store.specs.Layout.{headerSize, storeSize, room, used, isOpen, symbolsAt, recordsIn}
 use Rattle.store.specs.Sound.{frameOk, deskOk, heldBy, reservedAt, recordOk, recordsOk, soundb}
-use Rattle.store.specs.Walk.{walk, start, passb}
+use Rattle.store.specs.Walk.{walked, start, passb}
 use Rattle.store.proofs.Desks.{desk-stands}
 use Rattle.store.proofs.Walking.{walk-is}
 use Rattle.store.proofs.Climbing.{fits-are}
@@ -25,8 +25,8 @@ pass-both : (s : List ℕ) (rs : List (List ℕ)) → passb s rs ≡ recordsOk s
 unfolding passb recordsOk
 pass-both s rs = go (every desks (deskOk s rs)) refl
   where
-    go : (t : Bool) → every desks (deskOk s rs) ≡ t → (walk s 0 start start rs && t) ≡ ((rises 0 (keys rs) && all (recordOk s rs) rs) && t)
-    go false e = and-false (walk s 0 start start rs) ∙ rw (and-false (rises 0 (keys rs) && all (recordOk s rs) rs))
+    go : (t : Bool) → every desks (deskOk s rs) ≡ t → (walked s 0 start start rs && t) ≡ ((rises 0 (keys rs) && all (recordOk s rs) rs) && t)
+    go false e = and-false (walked s 0 start start rs) ∙ rw (and-false (rises 0 (keys rs) && all (recordOk s rs) rs))
     go true e =
         let some : (d : ℕ) → d < desks → T (isOpen s d) → 1 ≤ symbolsAt s d =
         λ d l o. (let h = desk-stands s d (heldBy d rs) o (every-at desks (deskOk s rs) (of-true (every desks (deskOk s rs)) e) d l) in omega (arith, h .fewest)) in

@@ -54,8 +54,8 @@ pub record Summed (r : List ℕ) (x y : ℕ) : Type 0 where
 -- ---- marks
 
 -- the mark of a key in a sample that has x counts of it: one more than the key, where there are some
-unfoldable pub marked : ℕ → ℕ → ℕ
-marked k x = cond (ltb 0 x) (k + 1) 0
+unfoldable pub seenMark : ℕ → ℕ → ℕ
+seenMark k x = cond (ltb 0 x) (k + 1) 0
 
 -- where there are counts, the mark is the parent's
 unfoldable pub markOk : ℕ → ℕ → ℕ → Bool
@@ -68,13 +68,13 @@ stepOk s lo p q r =
 
 -- a sample's marks after a record: place l + 1 has the last record of length l
 abbrev pub after : Sample → List ℕ → List ℕ → List ℕ
-after i r p = set p (lenOf (key r) + 1) (marked (key r) (totalOf i r))
+after i r p = set p (lenOf (key r) + 1) (seenMark (key r) (totalOf i r))
 
-unfoldable pub walk : List ℕ → ℕ → List ℕ → List ℕ → List (List ℕ) → Bool
-walk s lo p q [] = true
-walk s lo p q (r ∷ rs) =
+unfoldable pub walked : List ℕ → ℕ → List ℕ → List ℕ → List (List ℕ) → Bool
+walked s lo p q [] = true
+walked s lo p q (r ∷ rs) =
     stepOk s lo (getD p (lenOf (key r)) 0) (getD q (lenOf (key r)) 0) r
-    && walk s (key r + 1) (after first r p) (after second r q) rs
+    && walked s (key r + 1) (after first r p) (after second r q) rs
 
 -- no marks
 abbrev pub start : List ℕ
@@ -86,4 +86,4 @@ tallyOk s tally d = deskTest s d (getD tally d 0)
 
 -- the pass
 unfoldable pub passb : List ℕ → List (List ℕ) → Bool
-passb s rs = walk s 0 start start rs && every desks (deskOk s rs)
+passb s rs = walked s 0 start start rs && every desks (deskOk s rs)

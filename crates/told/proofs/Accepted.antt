@@ -11,7 +11,7 @@ use Rattle.rules.specs.Rules.{done, room, point, charting, rules}
 use Rattle.store.specs.Making.{Makes, refusalOf}
 use Rattle.store.specs.declared.Made.{Made}
 use Rattle.store.specs.declared.Made.the-variants as making
-use Rattle.calls.specs.Refusals.{outcomeOf, roomOf, reportOf, endingOf, chartedOf}
+use Rattle.calls.specs.Refusals.{outcomeOf, roomOf, writtenOf, endingOf, chartedOf}
 use Rattle.calls.specs.Promises.{Moves, Asks, Reports}
 use Rattle.calls.specs.declared.Verdict.{Verdict}
 use Rattle.calls.specs.declared.Verdict.the-variants as verdict
@@ -29,7 +29,7 @@ use Rattle.sitting_file.specs.Format.{readOf}
 use Rattle.sitting_file.specs.declared.Shape.{Shape}
 use Rattle.sitting_file.specs.declared.Reading.{Reading}
 use Rattle.sitting_file.specs.declared.Reading.the-variants as reading
-use Rattle.told.specs.Codes.{codeOf, readCode}
+use Rattle.told.specs.Codes.{toldAs, readCode}
 use Rattle.told.specs.Outputs.{leftAfter, rowsAfter, scoreAfter, shapeAfter, seenIn, firstIn, secondIn, gapIn, seenAfter, firstAfter, secondAfter, gapAfter}
 use Rattle.told.specs.Told.{MakeTold, MoveTold, RunTold, RoomTold, ReportTold, ReadTold, ChartTold}
 use Rattle.told.proofs.Numbers.{fault-above-zero, not-refused}
@@ -48,7 +48,7 @@ module _ {s t : List ℕ} {c : Call rules} where
   pub move-accepted : MoveTold s c 0 t → Moves s c (answered done) t
   move-accepted m = go (m .answer) (m .promise) (m .number)
     where
-      go : (x : Verdict) → Moves s c (outcomeOf x) t → 0 ≡ codeOf (outcomeOf x) → Moves s c (answered done) t
+      go : (x : Verdict) → Moves s c (outcomeOf x) t → 0 ≡ toldAs (outcomeOf x) → Moves s c (answered done) t
       go verdict.Done p e = p
       go (verdict.Refused why) p e = not-refused why e
 
@@ -57,7 +57,7 @@ module _ {s t symbols : List ℕ} {d k r : ℕ} where
   pub run-whole : RunTold s d k symbols r 0 t → Runs s d k symbols r (answered done) t
   run-whole m = go (m .ending) (m .promise) (m .number)
     where
-      go : (x : Ending) → Runs s d k symbols r (endingOf x) t → 0 ≡ codeOf (endingOf x) → Runs s d k symbols r (answered done) t
+      go : (x : Ending) → Runs s d k symbols r (endingOf x) t → 0 ≡ toldAs (endingOf x) → Runs s d k symbols r (answered done) t
       go ending.Whole p e = p
       go (ending.Refused why) p e = not-refused why e
 
@@ -66,19 +66,19 @@ module _ {s : List ℕ} {old left : ℕ} where
   pub room-accepted : RoomTold s 0 old left → Asks s roomQuestion (answered (room left))
   room-accepted m = go (m .answer) (m .promise) (m .number) (m .output)
     where
-      go : (x : RoomLeft) → Asks s roomQuestion (roomOf x) → 0 ≡ codeOf (roomOf x) → left ≡ leftAfter x old → Asks s roomQuestion (answered (room left))
+      go : (x : RoomLeft) → Asks s roomQuestion (roomOf x) → 0 ≡ toldAs (roomOf x) → left ≡ leftAfter x old → Asks s roomQuestion (answered (room left))
       go (question.Contexts n) p e o = subst (λ (k : ℕ). Asks s roomQuestion (answered (room k))) (sym o) p
       go (question.Refused why) p e o = not-refused why e
 
 -- ---- a report
 module _ {s : List ℕ} {d place : ℕ} {before after : List ℕ} {old rows : ℕ} {was score : ℤ} where
   -- `rows` rows are on the sheet from row `place` on
-  pub report-accepted : ReportTold s d place 0 before after old rows was score → Reports s d place (reportOf (written.Rows rows score) place after) before after
+  pub report-accepted : ReportTold s d place 0 before after old rows was score → Reports s d place (writtenOf (written.Rows rows score) place after) before after
   report-accepted m = go (m .answer) (m .promise) (m .number) (m .row-count) (m .its-score)
     where
-      go : (x : ReportAnswer) → Reports s d place (reportOf x place after) before after → 0 ≡ codeOf (reportOf x place after) → rows ≡ rowsAfter x old → score ≡ scoreAfter x was
-          → Reports s d place (reportOf (written.Rows rows score) place after) before after
-      go (written.Rows n z) p e f g = subst (λ (x : ReportAnswer). Reports s d place (reportOf x place after) before after) (sym (ap₂ written.Rows f g)) p
+      go : (x : ReportAnswer) → Reports s d place (writtenOf x place after) before after → 0 ≡ toldAs (writtenOf x place after) → rows ≡ rowsAfter x old → score ≡ scoreAfter x was
+          → Reports s d place (writtenOf (written.Rows rows score) place after) before after
+      go (written.Rows n z) p e f g = subst (λ (x : ReportAnswer). Reports s d place (writtenOf x place after) before after) (sym (ap₂ written.Rows f g)) p
       go (written.Refused why) p e f g = not-refused why e
 
 -- ---- a chart question: the chart that was answered, and its outputs
@@ -94,7 +94,7 @@ module _ {s : List ℕ} {d len code a old seen : ℕ} {first first′ second sec
   pub chart-accepted : ChartTold s d len code a 0 old seen first first′ second second′ gap gap′ → Charted s d len code a seen first first′ second second′ gap gap′
   chart-accepted m = go (m .answer) (m .promise) (m .number) (m .seen-by) (m .its-first) (m .its-second) (m .its-gap)
     where
-      go : (x : ChartAnswer) → Asks s (atDesk d (asking (charting len code a))) (chartedOf x) → 0 ≡ codeOf (chartedOf x)
+      go : (x : ChartAnswer) → Asks s (atDesk d (asking (charting len code a))) (chartedOf x) → 0 ≡ toldAs (chartedOf x)
           → seen ≡ seenAfter x old → first′ ≡ firstAfter x first → second′ ≡ secondAfter x second → gap′ ≡ gapAfter x gap → Charted s d len code a seen first first′ second second′ gap gap′
       go (asked.Answered t) p e f g h k = record { chart = t; asks = p; seen-by = f; its-first = g; its-second = h; its-gap = k }
       go (asked.Refused why) p e f g h k = not-refused why e

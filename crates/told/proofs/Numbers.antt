@@ -10,7 +10,7 @@ use Rattle.calls.specs.declared.Refusal.the-variants.{Unsound, NoSuchDesk, Alre
 use Rattle.sitting_file.specs.Format as format
 use Rattle.sitting_file.specs.declared.Refusal as file
 use Rattle.sitting_file.specs.declared.Refusal.the-variants as fault
-use Rattle.told.specs.Codes.{codeOf}
+use Rattle.told.specs.Codes.{toldAs}
 
 -- THEOREM. No refusal has the number 0
 pub above-zero : (why : Refusal) → 0 < refusalNumber why
@@ -38,6 +38,6 @@ pub not-refused : {B : Type 0} (why : Refusal) → 0 ≡ refusalNumber why → B
 not-refused why e = absurd (omega (arith, above-zero why, e))
 
 -- a number above 0 is a refusal's
-pub refused-by : (o : Outcome Answer) (n : ℕ) → suc n ≡ codeOf o → o ≡ refused (suc n)
+pub refused-by : (o : Outcome Answer) (n : ℕ) → suc n ≡ toldAs o → o ≡ refused (suc n)
 refused-by (answered x) n e = absurd (omega (arith, e))
 refused-by (refused m) n e = ap refused (sym e)

@@ -8,7 +8,7 @@ use lib.Ieee.{Float}
 use Rattle.replay.specs.Table.{Outcome, refused}
 use Rattle.replay.specs.Machine.{Call, roomQuestion}
 use Rattle.rules.specs.Rules.{Answer, rules}
-use Rattle.calls.specs.Refusals.{outcomeOf, roomOf, reportOf, endingOf, chartedOf}
+use Rattle.calls.specs.Refusals.{outcomeOf, roomOf, writtenOf, endingOf, chartedOf}
 use Rattle.calls.specs.Promises.{Moves, Asks, Reports}
 use Rattle.calls.specs.declared.RoomLeft.{RoomLeft}
 use Rattle.calls.specs.declared.RoomLeft.the-variants as question
@@ -20,7 +20,7 @@ use Rattle.calls.specs.declared.ChartAnswer.the-variants as asked
 use Rattle.sitting_file.specs.Format.{readOf}
 use Rattle.sitting_file.specs.declared.Reading.{Reading}
 use Rattle.sitting_file.specs.declared.Reading.the-variants as reading
-use Rattle.told.specs.Codes.{codeOf, readCode}
+use Rattle.told.specs.Codes.{toldAs, readCode}
 use Rattle.told.specs.Outputs.{leftAfter, rowsAfter, scoreAfter, shapeAfter, seenAfter, firstAfter, secondAfter, gapAfter}
 use Rattle.told.specs.Told.{MoveTold, RunTold, RoomTold, ReportTold, ReadTold, ChartTold}
 use Rattle.told.proofs.Numbers.{refused-by}
@@ -40,7 +40,7 @@ module _ {s : List ℕ} {old left : ℕ} where
   pub room-refused : {n : ℕ} → RoomTold s (suc n) old left → Asks s roomQuestion (refused (suc n)) × (left ≡ old)
   room-refused {n} m = go (m .answer) (m .promise) (m .number) (m .output)
     where
-      go : (x : RoomLeft) → Asks s roomQuestion (roomOf x) → suc n ≡ codeOf (roomOf x) → left ≡ leftAfter x old → Asks s roomQuestion (refused (suc n)) × (left ≡ old)
+      go : (x : RoomLeft) → Asks s roomQuestion (roomOf x) → suc n ≡ toldAs (roomOf x) → left ≡ leftAfter x old → Asks s roomQuestion (refused (suc n)) × (left ≡ old)
       go (question.Contexts k) p e o = absurd (omega (arith, e))
       go (question.Refused why) p e o = (subst (λ (k : ℕ). Asks s roomQuestion (refused k)) (sym e) p, o)
 
@@ -49,7 +49,7 @@ module _ {s : List ℕ} {d place : ℕ} {before after : List ℕ} {old rows : �
   pub report-refused : {n : ℕ} → ReportTold s d place (suc n) before after old rows was score → Reports s d place (refused (suc n)) before after × (rows ≡ old) × (score ≡ was)
   report-refused {n} m = go (m .answer) (m .promise) (m .number) (m .row-count) (m .its-score)
     where
-      go : (x : ReportAnswer) → Reports s d place (reportOf x place after) before after → suc n ≡ codeOf (reportOf x place after) → rows ≡ rowsAfter x old → score ≡ scoreAfter x was
+      go : (x : ReportAnswer) → Reports s d place (writtenOf x place after) before after → suc n ≡ toldAs (writtenOf x place after) → rows ≡ rowsAfter x old → score ≡ scoreAfter x was
           → Reports s d place (refused (suc n)) before after × (rows ≡ old) × (score ≡ was)
       go (written.Rows k z) p e f g = absurd (omega (arith, e))
       go (written.Refused why) p e f g = (subst (λ (k : ℕ). Reports s d place (refused k) before after) (sym e) p, f, g)
@@ -59,7 +59,7 @@ module _ {s : List ℕ} {d len code a old seen : ℕ} {first first′ second sec
   pub chart-refused : {n : ℕ} → ChartTold s d len code a (suc n) old seen first first′ second second′ gap gap′ → (seen ≡ old) × (first′ ≡ first) × (second′ ≡ second) × (gap′ ≡ gap)
   chart-refused {n} m = go (m .answer) (m .number) (m .seen-by) (m .its-first) (m .its-second) (m .its-gap)
     where
-      go : (x : ChartAnswer) → suc n ≡ codeOf (chartedOf x) → seen ≡ seenAfter x old → first′ ≡ firstAfter x first → second′ ≡ secondAfter x second → gap′ ≡ gapAfter x gap
+      go : (x : ChartAnswer) → suc n ≡ toldAs (chartedOf x) → seen ≡ seenAfter x old → first′ ≡ firstAfter x first → second′ ≡ secondAfter x second → gap′ ≡ gapAfter x gap
           → (seen ≡ old) × (first′ ≡ first) × (second′ ≡ second) × (gap′ ≡ gap)
       go (asked.Answered t) e f g h k = absurd (omega (arith, e))
       go (asked.Refused why) e f g h k = (f, g, h, k)

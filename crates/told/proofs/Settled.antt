@@ -14,7 +14,7 @@ use Rattle.rules.specs.Rules.{Answer, done, room, reported, point, charting, ru
 use Rattle.store.specs.Sound.{soundb}
 use Rattle.store.specs.Making.{refusalOf}
 use Rattle.chart.specs.declared.Chart.{Chart}
-use Rattle.calls.specs.Refusals.{outcomeOf, roomOf, reportOf, endingOf, chartedOf}
+use Rattle.calls.specs.Refusals.{outcomeOf, roomOf, writtenOf, endingOf, chartedOf}
 use Rattle.calls.specs.declared.RoomLeft.{RoomLeft}
 use Rattle.calls.specs.declared.RoomLeft.the-variants as question
 use Rattle.calls.specs.declared.ReportAnswer.{ReportAnswer}
@@ -23,7 +23,7 @@ use Rattle.calls.proofs.Settled.{moves-settled, asks-settled, reports-settled}
 use Rattle.calls.specs.Run.{Runs}
 use Rattle.calls.specs.declared.ChartAnswer.{ChartAnswer}
 use Rattle.calls.specs.declared.ChartAnswer.the-variants as asked
-use Rattle.told.specs.Codes.{codeOf}
+use Rattle.told.specs.Codes.{toldAs}
 use Rattle.told.specs.Outputs.{leftAfter, rowsAfter, scoreAfter, seenIn, firstIn, secondIn, gapIn, seenAfter, firstAfter, secondAfter, gapAfter}
 use Rattle.told.specs.Told.{MakeTold, MoveTold, RunTold, RoomTold, ReportTold, ReadTold, ChartTold}
 
@@ -33,7 +33,7 @@ make-one m n = m .number ∙ ap refusalOf (m .promise .answered ∙ sym (n .prom
 
 pub move-one : {s : List ℕ} {c : Call rules} {r q : ℕ} {x y : List ℕ} → MoveTold s c r x → MoveTold s c q y → r ≡ q
 move-one {s} {c} {r} {q} {x} {y} m n =
-    m .number ∙ ap codeOf (moves-settled s c (outcomeOf (m .answer)) (outcomeOf (n .answer)) x y (m .promise) (n .promise) .answer) ∙ sym (n .number)
+    m .number ∙ ap toldAs (moves-settled s c (outcomeOf (m .answer)) (outcomeOf (n .answer)) x y (m .promise) (n .promise) .answer) ∙ sym (n .number)
 
 module _ {s symbols : List ℕ} {d k : ℕ} where
   ends-one : {r q : ℕ} {x y : List ℕ} (o p : Outcome Answer) → Runs s d k symbols r o x → Runs s d k symbols q p y → (r ≡ q) × (o ≡ p)
@@ -46,7 +46,7 @@ module _ {s symbols : List ℕ} {d k : ℕ} where
   pub run-one : {r q why how : ℕ} {x y : List ℕ} → RunTold s d k symbols r why x → RunTold s d k symbols q how y → (r ≡ q) × (why ≡ how)
   run-one m n =
       let e = ends-one (endingOf (m .ending)) (endingOf (n .ending)) (m .promise) (n .promise) in
-      (e .0, m .number ∙ ap codeOf (e .1) ∙ sym (n .number))
+      (e .0, m .number ∙ ap toldAs (e .1) ∙ sym (n .number))
 
 -- ---- questions: an output is what the outcome has for it, or what stood there
 module _ {B : Type 0} where
@@ -83,12 +83,12 @@ unfolding from leftIn
 left-from (question.Contexts n) old = refl
 left-from (question.Refused why) old = refl
 
-rows-from : (x : ReportAnswer) (place : ℕ) (sheet : List ℕ) (old : ℕ) → rowsAfter x old ≡ from rowsIn (reportOf x place sheet) old
+rows-from : (x : ReportAnswer) (place : ℕ) (sheet : List ℕ) (old : ℕ) → rowsAfter x old ≡ from rowsIn (writtenOf x place sheet) old
 unfolding from rowsIn
 rows-from (written.Rows n z) place sheet old = rows-read n (drop (rowWidth * place) sheet)
 rows-from (written.Refused why) place sheet old = refl
 
-score-from : (x : ReportAnswer) (place : ℕ) (sheet : List ℕ) (old : ℤ) → scoreAfter x old ≡ from scoreIn (reportOf x place sheet) old
+score-from : (x : ReportAnswer) (place : ℕ) (sheet : List ℕ) (old : ℤ) → scoreAfter x old ≡ from scoreIn (writtenOf x place sheet) old
 unfolding from scoreIn
 score-from (written.Rows n z) place sheet old = refl
 score-from (written.Refused why) place sheet old = refl
@@ -120,14 +120,14 @@ both f old e a b c d = a ∙ b ∙ ap (λ (o : Outcome Answer). from f o old) e 
 pub room-one : {s : List ℕ} {r q old x y : ℕ} → RoomTold s r old x → RoomTold s q old y → (r ≡ q) × (x ≡ y)
 room-one {s} {r} {q} {old} m n =
     let e = asks-settled s roomQuestion (roomOf (m .answer)) (roomOf (n .answer)) (m .promise) (n .promise) in
-    (m .number ∙ ap codeOf e ∙ sym (n .number), both leftIn old e (m .output) (left-from (m .answer) old) (n .output) (left-from (n .answer) old))
+    (m .number ∙ ap toldAs e ∙ sym (n .number), both leftIn old e (m .output) (left-from (m .answer) old) (n .output) (left-from (n .answer) old))
 
 -- a report has one number, one sheet, one row count and one score
 pub report-one : {s : List ℕ} {d place r q : ℕ} {before x y : List ℕ} {old rows rows′ : ℕ} {was score score′ : ℤ}
     → ReportTold s d place r before x old rows was score → ReportTold s d place q before y old rows′ was score′ → (r ≡ q) × (x ≡ y) × (rows ≡ rows′) × (score ≡ score′)
 report-one {s} {d} {place} {r} {q} {before} {x} {y} {old} {rows} {rows′} {was} m n =
-    let e = reports-settled s d place (reportOf (m .answer) place x) (reportOf (n .answer) place y) before x y (m .promise) (n .promise) in (
-      m .number ∙ ap codeOf (e .0) ∙ sym (n .number),
+    let e = reports-settled s d place (writtenOf (m .answer) place x) (writtenOf (n .answer) place y) before x y (m .promise) (n .promise) in (
+      m .number ∙ ap toldAs (e .0) ∙ sym (n .number),
       e .1,
       both rowsIn old (e .0) (m .row-count) (rows-from (m .answer) place x old) (n .row-count) (rows-from (n .answer) place y old),
       both scoreIn was (e .0) (m .its-score) (score-from (m .answer) place x was) (n .its-score) (score-from (n .answer) place y was),
@@ -142,7 +142,7 @@ module _ {s : List ℕ} {d len code a r q old seen seen′ : ℕ} {u first first
       → (r ≡ q) × (seen ≡ seen′) × (first ≡ first′) × (second ≡ second′) × (gap ≡ gap′)
   chart-one m n =
       let e = asks-settled s (atDesk d (asking (charting len code a))) (chartedOf (m .answer)) (chartedOf (n .answer)) (m .promise) (n .promise) in (
-        m .number ∙ ap codeOf e ∙ sym (n .number),
+        m .number ∙ ap toldAs e ∙ sym (n .number),
         both (charted (λ (t : Chart) (was : ℕ). seenIn t)) old e (m .seen-by) (seen-from (m .answer) old) (n .seen-by) (seen-from (n .answer) old),
         both (charted firstIn) u e (m .its-first) (first-from (m .answer) u) (n .its-first) (first-from (n .answer) u),
         both (charted secondIn) v e (m .its-second) (second-from (m .answer) v) (n .its-second) (second-from (n .answer) v),

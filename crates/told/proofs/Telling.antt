@@ -6,7 +6,7 @@ use lib.IntN.{ℤ}
 use lib.Ieee.{Float}
 use Rattle.replay.specs.Machine.{atDesk, asking, roomQuestion}
 use Rattle.rules.specs.Rules.{charting}
-use Rattle.calls.specs.Refusals.{refusalNumber, roomOf, reportOf, chartedOf}
+use Rattle.calls.specs.Refusals.{refusalNumber, roomOf, writtenOf, chartedOf}
 use Rattle.calls.specs.Promises.{Asks, Reports}
 use Rattle.calls.specs.declared.Refusal.{Refusal}
 use Rattle.calls.specs.declared.RoomLeft.{RoomLeft}
@@ -22,7 +22,7 @@ use Rattle.sitting_file.specs.declared.Refusal as file
 use Rattle.sitting_file.specs.declared.Shape.{Shape}
 use Rattle.sitting_file.specs.declared.Reading.{Reading}
 use Rattle.sitting_file.specs.declared.Reading.the-variants as reading
-use Rattle.told.specs.Codes.{codeOf, readCode}
+use Rattle.told.specs.Codes.{toldAs, readCode}
 use Rattle.told.specs.Outputs.{leftAfter, rowsAfter, scoreAfter, shapeAfter, seenIn, firstIn, secondIn, gapIn, seenAfter, firstAfter, secondAfter, gapAfter}
 use Rattle.told.specs.Told.{RoomTold, ReportTold, ReadTold, ChartTold}
 
@@ -32,7 +32,7 @@ module _ {s : List ℕ} {old : ℕ} (x : RoomLeft) (p : Asks s roomQuestion (roo
   room-refused e n = record {
     answer = x;
     promise = p;
-    number = n ∙ sym (ap (λ (a : RoomLeft). codeOf (roomOf a)) e);
+    number = n ∙ sym (ap (λ (a : RoomLeft). toldAs (roomOf a)) e);
     output = sym (ap (λ (a : RoomLeft). leftAfter a old) e);
   }
 
@@ -40,17 +40,17 @@ module _ {s : List ℕ} {old : ℕ} (x : RoomLeft) (p : Asks s roomQuestion (roo
   room-told e = record {
     answer = x;
     promise = p;
-    number = sym (ap (λ (a : RoomLeft). codeOf (roomOf a)) e);
+    number = sym (ap (λ (a : RoomLeft). toldAs (roomOf a)) e);
     output = sym (ap (λ (a : RoomLeft). leftAfter a old) e);
   }
 
 -- ---- a report
-module _ {s : List ℕ} {d place : ℕ} {before after : List ℕ} {rows : ℕ} {score : ℤ} (x : ReportAnswer) (p : Reports s d place (reportOf x place after) before after) where
+module _ {s : List ℕ} {d place : ℕ} {before after : List ℕ} {rows : ℕ} {score : ℤ} (x : ReportAnswer) (p : Reports s d place (writtenOf x place after) before after) where
   pub report-refused : {why : Refusal} {r : ℕ} → x ≡ written.Refused why → r ≡ refusalNumber why → ReportTold s d place r before after rows rows score score
   report-refused e n = record {
     answer = x;
     promise = p;
-    number = n ∙ sym (ap (λ (a : ReportAnswer). codeOf (reportOf a place after)) e);
+    number = n ∙ sym (ap (λ (a : ReportAnswer). toldAs (writtenOf a place after)) e);
     row-count = sym (ap (λ (a : ReportAnswer). rowsAfter a rows) e);
     its-score = sym (ap (λ (a : ReportAnswer). scoreAfter a score) e);
   }
@@ -60,7 +60,7 @@ module _ {s : List ℕ} {d place : ℕ} {before after : List ℕ} {rows : ℕ} {
   report-told e z = record {
     answer = x;
     promise = p;
-    number = sym (ap (λ (a : ReportAnswer). codeOf (reportOf a place after)) e);
+    number = sym (ap (λ (a : ReportAnswer). toldAs (writtenOf a place after)) e);
     row-count = sym (ap (λ (a : ReportAnswer). rowsAfter a rows) e);
     its-score = z ∙ sym (ap (λ (a : ReportAnswer). scoreAfter a score) e);
   }
@@ -83,7 +83,7 @@ module _ {s : List ℕ} {d len code a seen : ℕ} {first second gap : Float} (x 
   chart-refused e n = record {
     answer = x;
     promise = p;
-    number = n ∙ sym (ap (λ (y : ChartAnswer). codeOf (chartedOf y)) e);
+    number = n ∙ sym (ap (λ (y : ChartAnswer). toldAs (chartedOf y)) e);
     seen-by = sym (ap (λ (y : ChartAnswer). seenAfter y seen) e);
     its-first = sym (ap (λ (y : ChartAnswer). firstAfter y first) e);
     its-second = sym (ap (λ (y : ChartAnswer). secondAfter y second) e);
@@ -97,7 +97,7 @@ module _ {s : List ℕ} {d len code a seen : ℕ} {first second gap : Float} (x 
       record {
         answer = x;
         promise = p;
-        number = sym (ap (λ (y : ChartAnswer). codeOf (chartedOf y)) e′);
+        number = sym (ap (λ (y : ChartAnswer). toldAs (chartedOf y)) e′);
         seen-by = sym (ap (λ (y : ChartAnswer). seenAfter y seen) e′);
         its-first = sym (ap (λ (y : ChartAnswer). firstAfter y first) e′);
         its-second = sym (ap (λ (y : ChartAnswer). secondAfter y second) e′);

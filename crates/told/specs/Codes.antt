@@ -6,9 +6,9 @@ use Rattle.sitting_file.specs.Format.{refusalNumber}
 use Rattle.sitting_file.specs.declared.Reading.{Reading}
 use Rattle.sitting_file.specs.declared.Reading.the-variants as reading
 
-abbrev pub codeOf : Outcome Answer → ℕ
-codeOf (answered x) = 0
-codeOf (refused n) = n
+abbrev pub toldAs : Outcome Answer → ℕ
+toldAs (answered x) = 0
+toldAs (refused n) = n
 
 -- of a file that was read
 abbrev pub readCode : Reading → ℕ

@@ -9,7 +9,7 @@ use Rattle.replay.specs.Machine.{Call, atDesk, asking, roomQuestion}
 use Rattle.rules.specs.Rules.{rules, charting}
 use Rattle.store.specs.Making.{Makes, refusalOf}
 use Rattle.store.specs.declared.Made.{Made}
-use Rattle.calls.specs.Refusals.{outcomeOf, roomOf, reportOf, endingOf, chartedOf}
+use Rattle.calls.specs.Refusals.{outcomeOf, roomOf, writtenOf, endingOf, chartedOf}
 use Rattle.calls.specs.Promises.{Moves, Asks, Reports}
 use Rattle.calls.specs.declared.Verdict.{Verdict}
 use Rattle.calls.specs.declared.RoomLeft.{RoomLeft}
@@ -18,7 +18,7 @@ use Rattle.calls.specs.Run.{Runs}
 use Rattle.calls.specs.declared.Ending.{Ending}
 use Rattle.calls.specs.declared.ChartAnswer.{ChartAnswer}
 use Rattle.sitting_file.specs.Format.{readOf}
-use Rattle.told.specs.Codes.{codeOf, readCode}
+use Rattle.told.specs.Codes.{toldAs, readCode}
 use Rattle.told.specs.Outputs.{leftAfter, rowsAfter, scoreAfter, shapeAfter, seenAfter, firstAfter, secondAfter, gapAfter}
 
 -- a making of room K with the numbers `before`
@@ -31,26 +31,26 @@ pub record MakeTold (K : ℕ) (before : List ℕ) (r : ℕ) (after : List ℕ) :
 pub record MoveTold (before : List ℕ) (c : Call rules) (r : ℕ) (after : List ℕ) : Type 0 where
   pub answer : Verdict
   pub promise : Moves before c (outcomeOf answer) after
-  pub number : r ≡ codeOf (outcomeOf answer)
+  pub number : r ≡ toldAs (outcomeOf answer)
 
 -- a run of feeds, of which r were accepted: `why` is 0, or the refusal that the next one got
 pub record RunTold (before : List ℕ) (d k : ℕ) (symbols : List ℕ) (r why : ℕ) (after : List ℕ) : Type 0 where
   pub ending : Ending
   pub promise : Runs before d k symbols r (endingOf ending) after
-  pub number : why ≡ codeOf (endingOf ending)
+  pub number : why ≡ toldAs (endingOf ending)
 
 -- the room question
 pub record RoomTold (store : List ℕ) (r left left′ : ℕ) : Type 0 where
   pub answer : RoomLeft
   pub promise : Asks store roomQuestion (roomOf answer)
-  pub number : r ≡ codeOf (roomOf answer)
+  pub number : r ≡ toldAs (roomOf answer)
   pub output : left′ ≡ leftAfter answer left
 
 -- a report on desk d from row `place` on
 pub record ReportTold (store : List ℕ) (d place r : ℕ) (sheet sheet′ : List ℕ) (rows rows′ : ℕ) (score score′ : ℤ) : Type 0 where
   pub answer : ReportAnswer
-  pub promise : Reports store d place (reportOf answer place sheet′) sheet sheet′
-  pub number : r ≡ codeOf (reportOf answer place sheet′)
+  pub promise : Reports store d place (writtenOf answer place sheet′) sheet sheet′
+  pub number : r ≡ toldAs (writtenOf answer place sheet′)
   pub row-count : rows′ ≡ rowsAfter answer rows
   pub its-score : score′ ≡ scoreAfter answer score
 
@@ -63,7 +63,7 @@ pub record ReadTold (file : List ℕ) (r : ℕ) (shape shape′ : List ℕ) : Ty
 pub record ChartTold (store : List ℕ) (d len code a r seen seen′ : ℕ) (first first′ second second′ gap gap′ : Float) : Type 0 where
   pub answer : ChartAnswer
   pub promise : Asks store (atDesk d (asking (charting len code a))) (chartedOf answer)
-  pub number : r ≡ codeOf (chartedOf answer)
+  pub number : r ≡ toldAs (chartedOf answer)
   pub seen-by : seen′ ≡ seenAfter answer seen
   pub its-first : first′ ≡ firstAfter answer first
   pub its-second : second′ ≡ secondAfter answer second

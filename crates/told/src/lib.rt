@@ -2,14 +2,14 @@
 ghost use mathlib.Core.Path.{_≡_};
 ghost use Rattle.store.specs.Making.{refusalOf};
 ghost use Rattle.calls.specs.Refusals.{outcomeOf, endingOf};
-ghost use Rattle.told.specs.Codes.{codeOf};
+ghost use Rattle.told.specs.Codes.{toldAs};
 use calls::Ending;
 use calls::Verdict;
 use store::Made;
 
 // What an opening, a feed or a closing answers, as a number.
 pub fn code_of(verdict: Verdict) -> u32
-    ensures { λ r. ⌜ r ≡ codeOf (outcomeOf verdict) ⌝ }
+    ensures { λ r. ⌜ r ≡ toldAs (outcomeOf verdict) ⌝ }
 {
     match verdict {
         Verdict::Done => 0,
@@ -30,7 +30,7 @@ pub fn making_code(made: Made) -> u32
 
 // How a run of feeds ended, as a number.
 pub fn ending_code(ending: Ending) -> u32
-    ensures { λ r. ⌜ r ≡ codeOf (endingOf ending) ⌝ }
+    ensures { λ r. ⌜ r ≡ toldAs (endingOf ending) ⌝ }
 {
     match ending {
         Ending::Whole => 0,

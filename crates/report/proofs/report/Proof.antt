@@ -12,7 +12,7 @@ use Rattle.store.specs.Sound.{soundb}
 use Rattle.store.specs.Plain.{Open}
 use Rattle.store.proofs.Standing.{sound-stands}
 use Rattle.weighing.specs.declared.Desk.{Desk}
-use Rattle.calls.specs.Refusals.{reportOf}
+use Rattle.calls.specs.Refusals.{writtenOf}
 use Rattle.calls.specs.Promises.{Reports}
 use Rattle.report.proofs.Judging.{reports-unsound}
 use Rattle.report.proofs.Refusing.{told-no-desk, told-shut, told-first, told-second, can-report}
@@ -83,7 +83,7 @@ returns-6 c =
     let x = c .before .before .before .before .before .before .before .before .before .before .before .before .before .before .args in
     let r = c .before .before .report-on in
     let after = r .last .1 .1 .0 in
-    subst (λ (d : ℕ). Reports (x .store .now) d (x .place) (reportOf (r .result) (x .place) after) (x .sheet .now) after)
+    subst (λ (d : ℕ). Reports (x .store .now) d (x .place) (writtenOf (r .result) (x .place) after) (x .sheet .now) after)
     (ap (λ (k : Desk). k .number) (c .before .before .before .before .before .before .desk-in .ensures)) (r .ensures)
 
 pub report-spec : {M : Type 1} → statement M

@@ -6,7 +6,7 @@ use Rattle.numbers.proofs.Tests.{of-true}
 use Rattle.numbers.specs.Limits.{desks}
 use Rattle.contexts.specs.Keys.{deskOf}
 use Rattle.records.specs.Records.{key}
-use Rattle.store.specs.Walk.{marked}
+use Rattle.store.specs.Walk.{seenMark}
 use Rattle.store.proofs.Parts.{lent, record-lent, record-long}
 use Rattle.soundness.proofs.Turn.{Turn, turn-start, turn-next, turn-bad, turn-end}
 use Rattle.store.proofs.Walking.{step-desk}
@@ -133,7 +133,7 @@ loop-again c =
     let r = lent (loop .i) (args .body .now) in
     turn-next (args .store .now) (args .body .now) (args .many) (loop .p) (loop .q) (loop .tally) (loop .lo) (loop .i) (loop .inv) (omega arith) r
     (record-lent (args .many) (loop .i) (args .body .now) (omega arith)) (sym (c .before .before .before .record-ok .ensures) ∙ c .before .before .if1 .taken) (c .before .mark .result) (c .mark2 .result)
-    (c .before .mark .ensures ∙ ap (marked (key r)) (c .before .before .before .before .before .total .ensures .0)) (c .mark2 .ensures ∙ ap (marked (key r)) (c .before .before .before .before .total2 .ensures .0))
+    (c .before .mark .ensures ∙ ap (seenMark (key r)) (c .before .before .before .before .before .total .ensures .0)) (c .mark2 .ensures ∙ ap (seenMark (key r)) (c .before .before .before .before .total2 .ensures .0))
 
 returns : tie.Need-returns Inv-loop μ-loop
 returns c =
