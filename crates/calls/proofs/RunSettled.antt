@@ -11,7 +11,7 @@ use Rattle.store.specs.Sound.{soundb}
 use Rattle.store.specs.Meaning.{meaning}
 use Rattle.rules.specs.Rules.{Answer, done}
 use Rattle.calls.specs.Promises.{Moves}
-use Rattle.calls.specs.Run.{Run, first, feeding, fedRun, Runs}
+use Rattle.calls.specs.Run.{FeedRun, first, feeding, fedRun, Runs}
 use Rattle.calls.proofs.Running.{room-moved, ran-start, ran-refused, ran-whole}
 
 -- ---- two results that the promise allows
@@ -60,9 +60,9 @@ module _ (d k : ℕ) where
       let room-same : room t ≡ room s = room-moved s t d k a (answered done) h m in
       record {
         unsound = λ f. let z : _≡_ {A = ℕ} 0 1 = cc in absurd (omega arith);
-        accepts = λ g. ap suc (r .accepts sound) ∙ sym (ap (λ (q : Run). q .accepted) whole);
-        ends = λ g. r .ends sound ∙ sym (ap (λ (q : Run). q .ending) whole);
-        moves = λ g. r .moves sound ∙ sym (ap (λ (q : Run). q .room) whole);
+        accepts = λ g. ap suc (r .accepts sound) ∙ sym (ap (λ (q : FeedRun). q .accepted) whole);
+        ends = λ g. r .ends sound ∙ sym (ap (λ (q : FeedRun). q .ending) whole);
+        moves = λ g. r .moves sound ∙ sym (ap (λ (q : FeedRun). q .room) whole);
         stays-sound = λ g. r .stays-sound sound;
         none-stays = λ e. absurd (omega arith);
         past-stays = subst (λ (K : ℕ). drop (storeSize K) u ≡ drop (storeSize K) t) room-same (r .past-stays) ∙ m .past-stays;

@@ -16,7 +16,7 @@ use Rattle.store.specs.Sound.{soundb}
 use Rattle.store.specs.Meaning.{meaning}
 use Rattle.rules.specs.Rules.{Answer, done, rules}
 use Rattle.calls.specs.Promises.{Moves}
-use Rattle.calls.specs.Run.{Run, first, feeding, fedRun, Runs}
+use Rattle.calls.specs.Run.{FeedRun, first, feeding, fedRun, Runs}
 
 -- ---- no call changes K
 
@@ -37,10 +37,10 @@ pub room-moved : (x y : List ℕ) (d k a : ℕ) (o : Outcome Answer) → soundb 
 room-moved x y d k a o h m = sym (room-made y) ∙ ap (λ (ρ : Room Progress). ρ .made) (m .moves h) ∙ move-made (meaning x) d k a ∙ room-made x
 
 -- ---- a run with n accepted feeds before it
-unfoldable pub ahead : ℕ → Run → Run
+unfoldable pub ahead : ℕ → FeedRun → FeedRun
 ahead n r = record { accepted = n + r .accepted; ending = r .ending; room = r .room }
 
-from-none : (r : Run) → r ≡ ahead 0 r
+from-none : (r : FeedRun) → r ≡ ahead 0 r
 unfolding ahead
 from-none r = let e : 0 + r .accepted ≡ r .accepted = omega arith in rw e
 
@@ -84,7 +84,7 @@ module _ (s : List ℕ) (d k : ℕ) (symbols : List ℕ) where
           long = m .length-stays ∙ r .long;
         }
       where
-        counted : (m : ℕ) {o : Outcome Answer} {ρ : Room Progress} → _≡_ {A = Run} (record { accepted = n + suc m; ending = o; room = ρ }) (record { accepted = suc n + m; ending = o; room = ρ })
+        counted : (m : ℕ) {o : Outcome Answer} {ρ : Room Progress} → _≡_ {A = FeedRun} (record { accepted = n + suc m; ending = o; room = ρ }) (record { accepted = suc n + m; ending = o; room = ρ })
         counted m = let e : n + suc m ≡ suc n + m = omega arith in rw e
 
     -- a run that ends here, in o
@@ -94,9 +94,9 @@ module _ (s : List ℕ) (d k : ℕ) (symbols : List ℕ) where
         let whole : fedRun d k symbols (meaning s) ≡ record { accepted = n + 0; ending = o; room = meaning x } = r .rest ∙ ap (ahead n) e in
         record {
           unsound = λ f. let z : _≡_ {A = ℕ} 0 1 = cc in absurd (omega arith);
-          accepts = λ g. omega (arith, ap (λ (q : Run). q .accepted) whole);
-          ends = λ g. sym (ap (λ (q : Run). q .ending) whole);
-          moves = λ g. sym (ap (λ (q : Run). q .room) whole);
+          accepts = λ g. omega (arith, ap (λ (q : FeedRun). q .accepted) whole);
+          ends = λ g. sym (ap (λ (q : FeedRun). q .ending) whole);
+          moves = λ g. sym (ap (λ (q : FeedRun). q .room) whole);
           stays-sound = λ g. r .sound;
           none-stays = r .none;
           past-stays = r .past;

@@ -14,13 +14,13 @@ use Rattle.store.specs.Meaning.{meaning}
 use Rattle.rules.specs.Rules.{Answer, feed, done, rules}
 
 -- how many feeds were accepted, how they ended, and the room then
-pub record Run : Type 0 where
+pub record FeedRun : Type 0 where
   pub accepted : ℕ
   pub ending : Outcome Answer
   pub room : Room Progress
 
 -- a feed at ρ that got an outcome, and the run of those after it where it was accepted
-unfoldable pub first : Outcome Answer → Room Progress → Run → Run
+unfoldable pub first : Outcome Answer → Room Progress → FeedRun → FeedRun
 first (refused n) ρ rest = record { accepted = 0; ending = refused n; room = ρ }
 first (answered x) ρ rest = record { accepted = suc (rest .accepted); ending = rest .ending; room = rest .room }
 
@@ -29,7 +29,7 @@ abbrev pub feeding : ℕ → ℕ → ℕ → Call rules
 feeding d k a = atDesk d (asking (feed k a))
 
 -- the symbols fed in their order, each as a feed of its own
-unfoldable pub fedRun : ℕ → ℕ → List ℕ → Room Progress → Run
+unfoldable pub fedRun : ℕ → ℕ → List ℕ → Room Progress → FeedRun
 fedRun d k [] ρ = record { accepted = 0; ending = answered done; room = ρ }
 fedRun d k (a ∷ rest) ρ = first (verdict rules ρ (feeding d k a)) ρ (fedRun d k rest (move rules ρ (feeding d k a)))
 

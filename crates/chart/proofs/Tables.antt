@@ -7,7 +7,7 @@ use Rattle.numbers.specs.Sum.{sum}
 use Rattle.numbers.proofs.Sums.{sum-cong, sum-past}
 use Rattle.contexts.specs.Sitting.{Sample, first, second, Sitting, totalIn, table, countIn}
 use Rattle.contexts.proofs.Tables.{table-count}
-use Rattle.chart.specs.Answer.{chartOf, chartIn, Askable}
+use Rattle.chart.specs.Answer.{chartOf, chartIn, Chartable}
 
 -- ---- a context of a sitting that has no count from A up
 module _ (x : Sitting) (s : List ℕ) (few : x .symbols ≤ mostSymbols) (none : (i : Sample) (a : ℕ) → x .symbols ≤ a → x .count i s a ≡ 0) where
@@ -19,5 +19,5 @@ module _ (x : Sitting) (s : List ℕ) (few : x .symbols ≤ mostSymbols) (none :
   table-chart a l = rw (table-count x s first a l, table-count x s second a l, table-total first, table-total second)
 
   -- what the code asks of a table, where both totals are within the limit
-  pub table-askable : (a : ℕ) → a < mostSymbols → ((i : Sample) → totalIn x i s ≤ mostCharted) → Askable (table x s) a
+  pub table-askable : (a : ℕ) → a < mostSymbols → ((i : Sample) → totalIn x i s ≤ mostCharted) → Chartable (table x s) a
   table-askable a l h = record { symbol = l; first = rw (table-total first) (h first); second = rw (table-total second) (h second) }

@@ -41,7 +41,7 @@ abbrev pub chartIn : List (List ℕ) → ℕ → Chart
 chartIn t a = chartFrom mostSymbols (countIn t) a
 
 -- what the code asks of a table and a symbol
-pub record Askable (t : List (List ℕ)) (a : ℕ) : Type 0 where
+pub record Chartable (t : List (List ℕ)) (a : ℕ) : Type 0 where
   pub symbol : a < mostSymbols
   pub first : sumOf (rowIn t first) ≤ mostCharted
   pub second : sumOf (rowIn t second) ≤ mostCharted

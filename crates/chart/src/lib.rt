@@ -4,7 +4,7 @@ ghost use Prim.Native.Nat.{_≤_};
 ghost use Rattle.numbers.specs.Limits.{mostCharted};
 ghost use Rattle.contexts.specs.Sitting.{sumOf};
 ghost use Rattle.chart.specs.Share.{share};
-ghost use Rattle.chart.specs.Answer.{pointOf, answer, chartIn, Askable};
+ghost use Rattle.chart.specs.Answer.{pointOf, answer, chartIn, Chartable};
 
 // The two shares, and the first less the second, rounded once.
 pub struct Point {
@@ -25,7 +25,7 @@ const SYMBOLS: usize = 8;
 
 // The answer for a symbol in the context with these counts.
 pub fn chart_of(counts: [[u32; 8]; 2], symbol: u32) -> Chart
-    requires { ⌜ Askable counts symbol ⌝ }
+    requires { ⌜ Chartable counts symbol ⌝ }
     ensures { λ r. ⌜ r ≡ chartIn counts symbol ⌝ }
 {
     let first = counts[0];

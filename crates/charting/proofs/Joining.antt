@@ -13,7 +13,7 @@ use Rattle.contexts.specs.Keys.{keyOf}
 use Rattle.contexts.specs.Sitting.{Sample, first, second, eight, table}
 use Rattle.contexts.proofs.Tables.{eight-same}
 use Rattle.records.specs.Records.{width, records, countsOf, lookup}
-use Rattle.records.specs.Held.{tableOf, Standing}
+use Rattle.records.specs.Held.{countTable, Standing}
 use Rattle.records.proofs.Parts.{wide-records}
 use Rattle.records.proofs.Counting.{wide-lookup}
 use Rattle.chart.specs.Answer.{chartOf, chartIn}
@@ -59,7 +59,7 @@ module _ (s : List ℕ) (e : soundb s ≡ true) (d : ℕ) (o : Open s d) (c : Li
       ∙ rw (is-true (isContext (symbolsAt s d) (depthAt s d) c) x)
 
   -- THEOREM. What stands under the context's key is the sitting's table of it
-  pub table-read : tableOf (lookup (keyOf d c) (recordsIn s)) ≡ table (sittingAt s d) c
+  pub table-read : countTable (lookup (keyOf d c) (recordsIn s)) ≡ table (sittingAt s d) c
   table-read = ap₂ (λ (p q : List ℕ). p ∷ q ∷ []) (row-read first) (row-read second)
 
   -- ---- a symbol of the sitting
@@ -67,7 +67,7 @@ module _ (s : List ℕ) (e : soundb s ≡ true) (d : ℕ) (o : Open s d) (c : Li
     small : a < mostSymbols
     small = omega (arith, fits .alphabet-most)
 
-    pub chart-read : chartIn (tableOf (lookup (keyOf d c) (recordsIn s))) a ≡ chartOf (sittingAt s d) c a
+    pub chart-read : chartIn (countTable (lookup (keyOf d c) (recordsIn s))) a ≡ chartOf (sittingAt s d) c a
     chart-read =
         ap (λ (t : List (List ℕ)). chartIn t a) table-read ∙ table-chart (sittingAt s d) c (fits .alphabet-most) (λ i. fits .only-below i c) a small
 

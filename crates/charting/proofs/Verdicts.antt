@@ -88,10 +88,10 @@ module _ (s : List ℕ) (d len code a : ℕ) (g : Asked s d len a) where
     pub key-readable : Readable s k a
     key-readable = subst (λ (m : ℕ). Readable s m a) under (readable s (g .sound) d (g .at-open) (decoded len code) context a (g .symbol))
 
-    pub asks-chart : (r : Chart) → r ≡ chartIn (held.tableOf (lookup k (recordsIn s))) a → Asks s (atDesk d (asking (charting len code a))) (answered (point r))
+    pub asks-chart : (r : Chart) → r ≡ chartIn (held.countTable (lookup k (recordsIn s))) a → Asks s (atDesk d (asking (charting len code a))) (answered (point r))
     asks-chart r q =
         let same : r ≡ chartOf (sittingAt s d) (decoded len code) a =
-        q ∙ ap (λ (m : ℕ). chartIn (held.tableOf (lookup m (recordsIn s))) a) (sym under) ∙ chart-read s (g .sound) d (g .at-open) (decoded len code) context a (g .symbol) in
+        q ∙ ap (λ (m : ℕ). chartIn (held.countTable (lookup m (recordsIn s))) a) (sym under) ∙ chart-read s (g .sound) d (g .at-open) (decoded len code) context a (g .symbol) in
         asks-answered s _ (answered (point r)) (g .sound)
         (by-lines s (g .sound) d (g .at-open) len code a
         ∙ rw (lt-leb (symbolsAt s d) a (g .symbol), le-ltb (depthAt s d) len (g .short), named-key (symbolsAt s d) d len code k n .0, same))

@@ -3,7 +3,7 @@ ghost use mathlib.Core.Path.{_≡_};
 ghost use Prim.Native.Nat.{_-_, _^_, _≤_, _<_};
 ghost use Rattle.numbers.specs.Limits.{deepest, desks};
 ghost use Rattle.records.specs.Records.{lookup};
-ghost use Rattle.records.specs.Held.{tableOf};
+ghost use Rattle.records.specs.Held.{countTable};
 ghost use Rattle.chart.specs.Answer.{chartIn};
 ghost use Rattle.replay.specs.Machine.{atDesk, asking};
 ghost use Rattle.store.specs.Layout.{recordsIn};
@@ -94,7 +94,7 @@ fn weight_of(newer: u32) -> u32
 // What the counts under a key say of a symbol.
 fn chart_under(store: &[u32], key: u32, symbol: u32) -> Chart
     requires { ⌜ Readable (now store) key symbol ⌝ }
-    ensures { λ r. ⌜ r ≡ chartIn (tableOf (lookup key (recordsIn (now (store .entry))))) symbol ⌝ }
+    ensures { λ r. ⌜ r ≡ chartIn (countTable (lookup key (recordsIn (now (store .entry))))) symbol ⌝ }
 {
     let many = store[USED] as usize;
     let body = &store[HEADER..];

@@ -9,7 +9,7 @@ use Rattle.contexts.specs.Sitting.{Progress}
 use Rattle.replay.specs.Room.{Making, Opening, Desk, closed, opened, Room}
 use Rattle.replay.specs.Table.{Outcome, refused, answered}
 use Rattle.replay.specs.Machine.{opening, asking, closing, Call, atDesk, roomQuestion, verdict, move, moved, put, shift, settle}
-use Rattle.replay.specs.Real.{Contracts, Made, Runs, stop, then}
+use Rattle.replay.specs.Real.{Contracts, Made, RunsReal, stop, then}
 use Rattle.replay.proofs.Refusals.{question-stays}
 use Rattle.store.specs.Sound.{soundb}
 use Rattle.store.specs.Meaning.{meaning}
@@ -92,6 +92,6 @@ pub newly-made : (K : Making) (σ : List ℕ) → MadeNew K σ → Made rules (L
 newly-made K σ m = record { sound = m .makes .sound-after refl; empty = m .makes .means refl }
 
 -- a run of the functions is a run of the machine's contracts
-pub runs : {σ τ : List ℕ} {cs : List (Call rules)} {os : List (Outcome Answer)} → Run σ cs os τ → Runs rules (List ℕ) contracts σ cs os τ
+pub runs : {σ τ : List ℕ} {cs : List (Call rules)} {os : List (Outcome Answer)} → Run σ cs os τ → RunsReal rules (List ℕ) contracts σ cs os τ
 runs trace.stop = stop
 runs (trace.then d r) = then d (runs r)

@@ -8,7 +8,7 @@ use Rattle.contexts.specs.Sitting.{Sample, Progress, sat}
 use Rattle.replay.specs.Room.{Making, Desk, closed, opened}
 use Rattle.replay.specs.Table.{Outcome, answered}
 use Rattle.replay.specs.Machine.{asking, Call, atDesk, answerAt, verdict}
-use Rattle.replay.specs.Real.{Made, Runs}
+use Rattle.replay.specs.Real.{Made, RunsReal}
 use Rattle.replay.specs.Alone.{asks}
 use Rattle.replay.specs.Serial.{struck, sittings}
 use Rattle.replay.proofs.Swap.{heard}
@@ -53,7 +53,7 @@ next-report : (K : Making) (σ τ υ : List ℕ) (cs : List (Call rules)) (os : 
 unfolding answerAt sitting.answerOf
 next-report K σ τ υ cs os made run d sheet place r does = go (meaning τ .at d) refl
   where
-    real : Runs rules (List ℕ) contracts σ cs os τ
+    real : RunsReal rules (List ℕ) contracts σ cs os τ
     real = runs run
 
     new : Made rules (List ℕ) contracts K σ

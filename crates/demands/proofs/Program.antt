@@ -11,7 +11,7 @@ use Rattle.rules.specs.Feed.{countedFrom}
 use Rattle.printing.specs.declared.Head.{Head}
 use Rattle.sitting_file.specs.Samples.{firstOf, secondOf}
 use Rattle.sitting_file.specs.declared.Shape.{Shape}
-use Rattle.judgement.specs.Judgement.{openingOf, stringsIn, fileSitting, Judged, judgement}
+use Rattle.judgement.specs.Judgement.{openingOf, stringsIn, fileSitting, FileReport, judgement}
 use Rattle.judgement.specs.Answers as answers
 use Rattle.judgement.specs.declared.SittingAnswer.the-variants as answer
 use Rattle.judgement.proofs.Texts.{stands}
@@ -35,7 +35,7 @@ pub demand-of-program : DemandOfProgram
 unfolding answers.answerFor answers.sheetLeft
 demand-of-program file store sheet store′ sheet′ head a = go (judgement file (length sheet)) refl (a .answer) (a .rows)
   where
-    go : (j : Outcome Judged) → judgement file (length sheet) ≡ j → answer.Reported head ≡ answers.answerFor j → sheet′ ≡ answers.sheetLeft j sheet → OfItsFile file sheet head sheet′
+    go : (j : Outcome FileReport) → judgement file (length sheet) ≡ j → answer.Reported head ≡ answers.answerFor j → sheet′ ≡ answers.sheetLeft j sheet → OfItsFile file sheet head sheet′
     go (refused n) e r s = never r
     go (answered x) e r s =
         let k = stands file (length sheet) x e in

@@ -28,18 +28,18 @@ callsOf A D r w v = atDesk 0 (opening (record { symbols = A; depth = D; reserve 
 -- ---- what is told
 
 -- a call was done, or refused by its number; or its rows, each as its eleven numbers, and the doubled score
-pub data Told : Type 0 where
-  did : Told
-  number : ℕ → Told
-  rows : List (List ℕ) → ℤ → Told
-  other : Told
+pub data Said : Type 0 where
+  did : Said
+  number : ℕ → Said
+  rows : List (List ℕ) → ℤ → Said
+  other : Said
 
-abbrev pub tell : Outcome Answer → Told
-tell (refused n) = number n
-tell (answered done) = did
-tell (answered (reported x)) = rows (map numbersOf (x .rows)) (x .score)
-tell (answered (room n)) = other
-tell (answered (point c)) = other
+abbrev pub say : Outcome Answer → Said
+say (refused n) = number n
+say (answered done) = did
+say (answered (reported x)) = rows (map numbersOf (x .rows)) (x .score)
+say (answered (room n)) = other
+say (answered (point c)) = other
 
 -- a row's eleven numbers: "0 for symbols from A up"
 abbrev pub row : ℕ → ℕ → ℕ → List ℕ → List ℕ
@@ -56,32 +56,32 @@ pub data Question : Type 0 where
 pub data Given : Type 0 where
   value : ℕ → Given
   reports : List (List ℕ) → ℤ → Given
-  each : List Told → Given
+  each : List Said → Given
 
 infix 68 _gives_
 pub data Example : Type 0 where
   _gives_ : Question → Given → Example
 
-pub data Answers : Type 0 where
-  isValue : ℕ → Answers
-  areTold : List Told → Answers
+pub data Worked : Type 0 where
+  isValue : ℕ → Worked
+  areSaid : List Said → Worked
 
 -- what the model answers
-abbrev pub answered-to : Question → Answers
+abbrev pub answered-to : Question → Worked
 answered-to (logarithm n) = isValue (L n)
-answered-to (sitting A D r w v) = areTold (map tell (outcomes rules (new r) (callsOf A D r w v)))
+answered-to (sitting A D r w v) = areSaid (map say (outcomes rules (new r) (callsOf A D r w v)))
 
 -- what the example says
-abbrev pub expected : Question → Given → Answers
+abbrev pub expected : Question → Given → Worked
 expected q (value k) = isValue k
-expected (sitting A D r w v) (reports ls n) = areTold (did ∷ (map (λ a. did) w ++ (map (λ a. did) v ++ (rows ls n ∷ []))))
-expected (logarithm n) (reports ls s) = areTold []
-expected q (each ts) = areTold ts
+expected (sitting A D r w v) (reports ls n) = areSaid (did ∷ (map (λ a. did) w ++ (map (λ a. did) v ++ (rows ls n ∷ []))))
+expected (logarithm n) (reports ls s) = areSaid []
+expected q (each ts) = areSaid ts
 
-abbrev pub asked : Example → Answers
+abbrev pub asked : Example → Worked
 asked (q gives a) = answered-to q
 
-abbrev pub given : Example → Answers
+abbrev pub given : Example → Worked
 given (q gives a) = expected q a
 
 -- every example's answer is the model's

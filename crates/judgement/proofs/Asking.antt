@@ -23,7 +23,7 @@ use Rattle.calls.specs.declared.ReportAnswer.{ReportAnswer}
 use Rattle.calls.specs.declared.ReportAnswer.the-variants as written
 use Rattle.sitting_file.specs.Samples.{Holds, firstOf, secondOf}
 use Rattle.sitting_file.specs.declared.Shape.{Shape}
-use Rattle.judgement.specs.Judgement.{openingOf, stringsIn, fileSitting, emptySample, Judged}
+use Rattle.judgement.specs.Judgement.{openingOf, stringsIn, fileSitting, emptySample, FileReport}
 use Rattle.judgement.specs.Answers as answers
 use Rattle.judgement.specs.Answers.{headed, sheetLeft, toldOf}
 use Rattle.judgement.specs.declared.SittingAnswer.{SittingAnswer}
@@ -80,10 +80,10 @@ pub number-same : {n m : ℕ} → _≡_ {A = Outcome Answer} (refused n) (refuse
 number-same e = cc
 
 module _ (shape : Shape) (its : Reported) (store sheet sheet′ : List ℕ) where
-  abbrev mine : Judged
+  abbrev mine : FileReport
   mine = record { shape = shape; report = its }
 
-  pub told-right : (r : ReportAnswer) (o : Outcome Answer) (j : Outcome Judged) → Alike (reported its) mine o j → writtenOf r 0 sheet′ ≡ o → toldOf shape r ≡ answers.answerFor j
+  pub told-right : (r : ReportAnswer) (o : Outcome Answer) (j : Outcome FileReport) → Alike (reported its) mine o j → writtenOf r 0 sheet′ ≡ o → toldOf shape r ≡ answers.answerFor j
   unfolding answers.answerFor
   told-right (written.Rows n z) o j (by-number k) e = never e
   told-right (written.Rows n z) o j by-answer e =
@@ -92,7 +92,7 @@ module _ (shape : Shape) (its : Reported) (store sheet sheet′ : List ℕ) wher
   told-right (written.Refused why) o j (by-number k) e = ap {B = SittingAnswer} (λ (n : ℕ). answer.Refused n) (number-same e)
   told-right (written.Refused why) o j by-answer e = never (sym e)
 
-  pub sheet-right : (o out : Outcome Answer) (j : Outcome Judged) → Alike (reported its) mine o j → Reports store 0 0 out sheet sheet′ → out ≡ o → sheet′ ≡ sheetLeft j sheet
+  pub sheet-right : (o out : Outcome Answer) (j : Outcome FileReport) → Alike (reported its) mine o j → Reports store 0 0 out sheet sheet′ → out ≡ o → sheet′ ≡ sheetLeft j sheet
   unfolding sheetLeft
   sheet-right o out j (by-number k) p e = p .refused-stays k e
   sheet-right o out j by-answer p e = p .written its e

@@ -13,7 +13,7 @@ use Rattle.replay.specs.Machine.{opening, atDesk, verdict, move, shift, settle,
 use Rattle.rules.specs.Rules.{done, rules}
 use Rattle.rules.specs.Strings.{sittingFor}
 use Rattle.rules.proofs.TrueCounts.{stands-fresh}
-use Rattle.calls.specs.Run.{Run, fedRun}
+use Rattle.calls.specs.Run.{FeedRun, fedRun}
 use Rattle.sitting_file.specs.Samples.{InLimits, Holds, firstOf, secondOf}
 use Rattle.sitting_file.specs.declared.Shape.{Shape}
 use Rattle.judgement.specs.Judgement.{roomMade, openingOf, stringsIn}
@@ -59,10 +59,10 @@ module _ (file : List ℕ) (shape : Shape) where
 
   -- ---- the two runs
   module _ (h : Holds file shape) where
-    abbrev one : Run
+    abbrev one : FeedRun
     one = fedRun 0 0 us (seated shape)
 
-    abbrev two : Run
+    abbrev two : FeedRun
     two = fedRun 0 1 vs (one .room)
 
     one-told : Ran (openingOf shape) w₁ one

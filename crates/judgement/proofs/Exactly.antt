@@ -11,18 +11,18 @@ use Rattle.rules.specs.Report.{report}
 use Rattle.sitting_file.specs.Format.{readOf}
 use Rattle.sitting_file.specs.declared.Shape.{Shape}
 use Rattle.sitting_file.specs.declared.Reading.the-variants.{Accepted}
-use Rattle.judgement.specs.Judgement.{fileSitting, fileLines, Judged, judged}
+use Rattle.judgement.specs.Judgement.{fileSitting, fileLines, FileReport, judged}
 use Rattle.judgement.specs.Answers.{answerFor, Answers}
 use Rattle.judgement.specs.declared.SittingAnswer.{SittingAnswer}
 use Rattle.judgement.specs.declared.SittingAnswer.the-variants.{Refused}
 
-refusal-of : (j : Outcome Judged) (n : ℕ) → answerFor j ≡ Refused n → j ≡ refused n
+refusal-of : (j : Outcome FileReport) (n : ℕ) → answerFor j ≡ Refused n → j ≡ refused n
 unfolding answerFor
 refusal-of (refused k) n e = let same : k ≡ n = cc in ap refused same
 refusal-of (answered x) n e = let z : _≡_ {A = ℕ} 0 1 = cc in absurd (omega arith)
 
 module _ (file store sheet store′ sheet′ : List ℕ) (r : SittingAnswer) (a : Answers file store sheet r store′ sheet′) (shape : Shape) (e : readOf file ≡ Accepted shape) where
-  abbrev mine : Judged
+  abbrev mine : FileReport
   mine = record { shape = shape; report = report (fileSitting file shape) }
 
   as-told : r ≡ answerFor (verdictOf (fileLines file shape (length sheet)) mine)

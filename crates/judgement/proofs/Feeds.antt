@@ -20,7 +20,7 @@ use Rattle.rules.specs.Feed.{afterFeed, pastReservation}
 use Rattle.rules.specs.Strings.{push, sittingFor, StandsFor}
 use Rattle.rules.proofs.TrueCounts.{stands-fed}
 use Rattle.rules.proofs.OwnReport.{many-same}
-use Rattle.calls.specs.Run.{Run, feeding, fedRun}
+use Rattle.calls.specs.Run.{FeedRun, feeding, fedRun}
 use Rattle.calls.specs.Run as run
 use Rattle.sitting_file.specs.Samples.{Below}
 use Rattle.judgement.proofs.Growing.{pushed, held-pushed}
@@ -32,7 +32,7 @@ pub record Sits (o : Opening) (w : Sample → List ℕ) (ρ : Room Progress) : T
   pub stands : StandsFor o w progress
 
 -- a run of symbols over such a desk
-pub data Ran (o : Opening) (w : Sample → List ℕ) (r : Run) : Type 0 where
+pub data Ran (o : Opening) (w : Sample → List ℕ) (r : FeedRun) : Type 0 where
   whole : contextsHeld (sittingFor o w) ≤ o .reserve → r .ending ≡ answered done → Sits o w (r .room) → Ran o w r
   stopped : o .reserve < contextsHeld (sittingFor o w) → r .ending ≡ refused 10 → Ran o w r
 
@@ -71,12 +71,12 @@ module _ (o : Opening) (k a : ℕ) (w : Sample → List ℕ) (ρ : Room Progress
   }
 
 -- one more accepted feed before a run
-one-before : (o : Opening) (w : Sample → List ℕ) (ρ : Room Progress) (r : Run) → Ran o w r → Ran o w (run.first (answered done) ρ r)
+one-before : (o : Opening) (w : Sample → List ℕ) (ρ : Room Progress) (r : FeedRun) → Ran o w r → Ran o w (run.first (answered done) ρ r)
 unfolding run.first
 one-before o w ρ r (whole h e s) = whole h e s
 one-before o w ρ r (stopped h e) = stopped h e
 
-stopped-here : (o : Opening) (w : Sample → List ℕ) (ρ : Room Progress) (r : Run) → o .reserve < contextsHeld (sittingFor o w) → Ran o w (run.first (refused 10) ρ r)
+stopped-here : (o : Opening) (w : Sample → List ℕ) (ρ : Room Progress) (r : FeedRun) → o .reserve < contextsHeld (sittingFor o w) → Ran o w (run.first (refused 10) ρ r)
 unfolding run.first
 stopped-here o w ρ r h = stopped h refl
 

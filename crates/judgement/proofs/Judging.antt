@@ -23,7 +23,7 @@ use Rattle.sitting_file.specs.declared.Shape.{Shape}
 use Rattle.sitting_file.specs.declared.Reading.{Reading}
 use Rattle.sitting_file.specs.declared.Reading.the-variants as reading
 use Rattle.sitting_file.proofs.AcceptedFile.{accepted-holds}
-use Rattle.judgement.specs.Judgement.{roomMade, openingOf, stringsIn, fileSitting, Judged, judged, judgement}
+use Rattle.judgement.specs.Judgement.{roomMade, openingOf, stringsIn, fileSitting, FileReport, judged, judgement}
 use Rattle.judgement.specs.Sitting.{runOf, Feeds}
 use Rattle.judgement.specs.Answers as answers
 use Rattle.judgement.specs.Answers.{sheetLeft, toldOf, StoreAfter, Answers}
@@ -34,13 +34,13 @@ use Rattle.judgement.proofs.Both.{file-told}
 use Rattle.judgement.proofs.Asking.{alike, late, asked, never, number-same, told-right, sheet-right}
 
 module _ (file store sheet : List ℕ) where
-  from-judged : (x : Reading) → readOf file ≡ x → (j : Outcome Judged) → judged file (length sheet) x ≡ j → (r : SittingAnswer) (store′ sheet′ : List ℕ)
+  from-judged : (x : Reading) → readOf file ≡ x → (j : Outcome FileReport) → judged file (length sheet) x ≡ j → (r : SittingAnswer) (store′ sheet′ : List ℕ)
       → r ≡ answers.answerFor j → sheet′ ≡ sheetLeft j sheet → StoreAfter file x store store′ → Answers file store sheet r store′ sheet′
   from-judged x e j f r store′ sheet′ a s n =
       let g : judgement file (length sheet) ≡ j = ap (judged file (length sheet)) e ∙ f in
       record {
         answer = a ∙ sym (ap answers.answerFor g);
-        rows = s ∙ sym (ap (λ (k : Outcome Judged). sheetLeft k sheet) g);
+        rows = s ∙ sym (ap (λ (k : Outcome FileReport). sheetLeft k sheet) g);
         numbers = subst (λ (y : Reading). StoreAfter file y store store′) (sym e) n;
       }
 
@@ -88,7 +88,7 @@ module _ (file store sheet : List ℕ) where
         its : Reported
         its = report (fileSitting file shape)
 
-        mine : Judged
+        mine : FileReport
         mine = record { shape = shape; report = its }
 
         go : Ran (openingOf shape) (stringsIn file shape) (runOf file shape) → Answers file store sheet t store′ sheet′

@@ -21,7 +21,7 @@ use Rattle.rules.specs.Rules.{Answer, done, rules}
 use Rattle.calls.specs.Promises.{Moves}
 use Rattle.calls.specs.Refusals.{refusalNumber, endingOf}
 use Rattle.calls.specs.declared.Refusal.{Refusal}
-use Rattle.calls.specs.Run.{Run, fedRun, Runs}
+use Rattle.calls.specs.Run.{FeedRun, fedRun, Runs}
 use Rattle.calls.specs.declared.Ending.{Ending}
 use Rattle.calls.specs.declared.Ending.the-variants as ending
 use Rattle.sitting_file.specs.Samples.{firstOf, secondOf}
@@ -43,7 +43,7 @@ seat-means shape s t u made v h m p =
 
 -- ---- the two runs
 module _ (s t us vs : List ℕ) (sound : soundb s ≡ true) where
-  abbrev both : Run
+  abbrev both : FeedRun
   both = fedBoth us vs (meaning s)
 
   pub first-stops : (n : ℕ) (why : Refusal) (x : Ending) → x ≡ ending.Refused why → Runs s 0 0 us n (endingOf x) t → Feeds (refused (refusalNumber why)) t both

@@ -21,7 +21,7 @@ use Rattle.sitting_file.specs.Samples.{InLimits}
 use Rattle.sitting_file.specs.declared.Reading.{Reading}
 use Rattle.sitting_file.specs.declared.Reading.the-variants as reading
 use Rattle.sitting_file.proofs.AcceptedFile.{accepted-holds}
-use Rattle.judgement.specs.Judgement.{sheetNumbers, fileSitting, fileLines, Judged, judged, judgement}
+use Rattle.judgement.specs.Judgement.{sheetNumbers, fileSitting, fileLines, FileReport, judged, judgement}
 use Rattle.judgement.specs.Answers.{answerFor, sheetLeft, Answers}
 use Rattle.judgement.specs.Prints.{linesText, textOf, CanPrint, textFrom, Prints}
 use Rattle.judgement.specs.declared.SittingAnswer.{SittingAnswer}
@@ -41,13 +41,13 @@ rows-long [] f = refl
 rows-long (r ∷ rs) f = omega (arith, f .0 .counts, rows-long rs (f .1), length-append (numbersOf r) (rows.sheetOf rs))
 
 -- ---- a file that is reported on
-pub record Stands (file : List ℕ) (sheet : ℕ) (x : Judged) : Type 0 where
+pub record Stands (file : List ℕ) (sheet : ℕ) (x : FileReport) : Type 0 where
   pub accepted : readOf file ≡ reading.Accepted (x .shape)
   pub limits : InLimits (x .shape)
   pub own : x .report ≡ report (fileSitting file (x .shape))
   pub fits : length (x .report .rows) ≤ sheet / rowWidth
 
-pub stands : (file : List ℕ) (sheet : ℕ) (x : Judged) → judgement file sheet ≡ answered x → Stands file sheet x
+pub stands : (file : List ℕ) (sheet : ℕ) (x : FileReport) → judgement file sheet ≡ answered x → Stands file sheet x
 unfolding judged
 stands file sheet x e = go (readOf file) refl e
   where
@@ -59,10 +59,10 @@ stands file sheet x e = go (readOf file) refl e
         subst (Stands file sheet) (n .1) (record { accepted = r; limits = accepted-holds file shape r .limits; own = refl; fits = omega arith })
 
 module _ (file store sheet store′ sheet′ : List ℕ) (r : SittingAnswer) (a : Answers file store sheet r store′ sheet′) where
-  abbrev its : Outcome Judged
+  abbrev its : Outcome FileReport
   its = judgement file (length sheet)
 
-  fitting : (x : Judged) → Stands file (length sheet) x → AllFit (x .report .rows)
+  fitting : (x : FileReport) → Stands file (length sheet) x → AllFit (x .report .rows)
   fitting x s =
       let y = fileSitting file (x .shape) in
       let l = s .limits in
@@ -72,7 +72,7 @@ module _ (file store sheet store′ sheet′ : List ℕ) (r : SittingAnswer) (a 
   unfolding sheetLeft
   length-kept = ap length (a .rows) ∙ go its refl
     where
-      go : (j : Outcome Judged) → its ≡ j → length (sheetLeft j sheet) ≡ length sheet
+      go : (j : Outcome FileReport) → its ≡ j → length (sheetLeft j sheet) ≡ length sheet
       go (refused k) e = refl
       go (answered x) e =
           let s = stands file (length sheet) x e in
@@ -85,7 +85,7 @@ module _ (file store sheet store′ sheet′ : List ℕ) (r : SittingAnswer) (a 
   unfolding answerFor
   can-print n = subst (λ (q : SittingAnswer). CanPrint q sheet′) (sym (a .answer)) (go its refl)
     where
-      go : (j : Outcome Judged) → its ≡ j → CanPrint (answerFor j) sheet′
+      go : (j : Outcome FileReport) → its ≡ j → CanPrint (answerFor j) sheet′
       go (refused k) e = tt
       go (answered x) e =
           let s = stands file (length sheet) x e in
@@ -97,7 +97,7 @@ module _ (file store sheet store′ sheet′ : List ℕ) (r : SittingAnswer) (a 
   unfolding answerFor sheetLeft textOf
   text-same = ap₂ textFrom (a .answer) (a .rows) ∙ go its refl
     where
-      go : (j : Outcome Judged) → its ≡ j → textFrom (answerFor j) (sheetLeft j sheet) ≡ textOf j
+      go : (j : Outcome FileReport) → its ≡ j → textFrom (answerFor j) (sheetLeft j sheet) ≡ textOf j
       go (refused k) e = refl
       go (answered x) e =
           let s = stands file (length sheet) x e in

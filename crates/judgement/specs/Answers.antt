@@ -14,7 +14,7 @@ use Rattle.sitting_file.specs.Format.{readOf}
 use Rattle.sitting_file.specs.declared.Shape.{Shape}
 use Rattle.sitting_file.specs.declared.Reading.{Reading}
 use Rattle.sitting_file.specs.declared.Reading.the-variants as reading
-use Rattle.judgement.specs.Judgement.{Judged, judgement}
+use Rattle.judgement.specs.Judgement.{FileReport, judgement}
 use Rattle.judgement.specs.Sitting.{runOf, Means}
 use Rattle.judgement.specs.declared.SittingAnswer.{SittingAnswer}
 use Rattle.judgement.specs.declared.SittingAnswer.the-variants.{Reported, Refused}
@@ -30,11 +30,11 @@ headed shape rows score = record {
   score = score;
 }
 
-abbrev pub headOf : Judged → Head
+abbrev pub headOf : FileReport → Head
 headOf x = headed (x .shape) (length (x .report .rows)) (x .report .score)
 
 -- the judgement as the code answers it
-unfoldable pub answerFor : Outcome Judged → SittingAnswer
+unfoldable pub answerFor : Outcome FileReport → SittingAnswer
 answerFor (refused n) = Refused n
 answerFor (answered x) = Reported (headOf x)
 
@@ -44,7 +44,7 @@ toldOf shape (written.Rows rows score) = Reported (headed shape rows score)
 toldOf shape (written.Refused why) = Refused (refusalNumber why)
 
 -- the rows stand on the sheet from row 0 on, every other number as before; a refusal leaves the sheet
-unfoldable pub sheetLeft : Outcome Judged → List ℕ → List ℕ
+unfoldable pub sheetLeft : Outcome FileReport → List ℕ → List ℕ
 sheetLeft (refused n) sheet = sheet
 sheetLeft (answered x) sheet = withRows 0 (x .report .rows) sheet
 

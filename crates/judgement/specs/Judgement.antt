@@ -52,14 +52,14 @@ fileLines file shape sheet =
     ∷ []
 
 -- what the file announces, and the report
-pub record Judged : Type 0 where
+pub record FileReport : Type 0 where
   pub shape : Shape
   pub report : Reported
 
 -- 13 to 16 where the reader refuses; else the first line that applies; else the report of the file's own sitting
-unfoldable pub judged : List ℕ → ℕ → Reading → Outcome Judged
+unfoldable pub judged : List ℕ → ℕ → Reading → Outcome FileReport
 judged file sheet (reading.Refused why) = refused (refusalNumber why)
 judged file sheet (reading.Accepted shape) = verdictOf (fileLines file shape sheet) (record { shape = shape; report = report (fileSitting file shape) })
 
-abbrev pub judgement : List ℕ → ℕ → Outcome Judged
+abbrev pub judgement : List ℕ → ℕ → Outcome FileReport
 judgement file sheet = judged file sheet (readOf file)

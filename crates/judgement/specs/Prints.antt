@@ -6,7 +6,7 @@ use Rattle.rows.specs.Rows.{Row, numbersOf}
 use Rattle.replay.specs.Table.{Outcome, refused, answered}
 use Rattle.printing.specs.Text.{headText, rowText, reportText, refusalText}
 use Rattle.printing.specs.Putting.{Printable, Printed}
-use Rattle.judgement.specs.Judgement.{sheetNumbers, Judged, judgement}
+use Rattle.judgement.specs.Judgement.{sheetNumbers, FileReport, judgement}
 use Rattle.judgement.specs.Answers.{answerFor, Answers}
 use Rattle.judgement.specs.declared.SittingAnswer.{SittingAnswer}
 use Rattle.judgement.specs.declared.SittingAnswer.the-variants.{Reported, Refused}
@@ -17,7 +17,7 @@ linesText A [] = []
 linesText A (r ∷ rs) = rowText A (numbersOf r) ++ linesText A rs
 
 -- "a line with A, D, n, m, row count, doubled score; then a line for each row"; "A refusal prints `refused` and the number."
-unfoldable pub textOf : Outcome Judged → List ℕ
+unfoldable pub textOf : Outcome FileReport → List ℕ
 textOf (refused n) = refusalText n
 textOf (answered x) =
     headText (x .shape .alphabet) (x .shape .depth) (x .shape .first) (x .shape .second) (length (x .report .rows)) (x .report .score) ++ linesText (x .shape .alphabet) (x .report .rows)

@@ -24,9 +24,9 @@ use Rattle.weighing.specs.declared.Context.{Context}
 use Rattle.listing.specs.declared.Spot.{Spot}
 use Rattle.listing.specs.declared.Way.{Way}
 use Rattle.weighing.specs.Sitting.{sittingIn}
-use Rattle.weighing.specs.Visit.{Ready}
+use Rattle.weighing.specs.Visit.{Arrived}
 use Rattle.listing.specs.Plans.{wanted}
-use Rattle.listing.specs.Writing.{sheetFor, Written, CanWrite}
+use Rattle.listing.specs.Writing.{sheetFor, WroteAt, CanWrite}
 use Rattle.weighing.proofs.Blocks.{key-older}
 use Rattle.weighing.proofs.Cursor.{within}
 use Rattle.weighing.proofs.Steps.{pow-le, after, deeper, room, step-is, step-small, key-small, child-context}
@@ -37,7 +37,7 @@ pub record Onward (k : Desk) (n : ℕ) (l : List ℕ) (s : List ℕ) (d step pow
   pub few : a ≤ k .symbols
   pub key-is : key ≡ keyOf (k .number) s + a * step + 1
   pub code-is : code ≡ codeOf s + a * power
-  pub written : Written old cur to (sheetFor (sittingIn k (records n l)) (gather a (λ b. wanted (k .symbols) d (losses (sittingIn k (records n l))) w (older s b)))) past
+  pub written : WroteAt old cur to (sheetFor (sittingIn k (records n l)) (gather a (λ b. wanted (k .symbols) d (losses (sittingIn k (records n l))) w (older s b)))) past
 
 -- the code of a child
 code-older : (s : List ℕ) (a : ℕ) → codeOf (older s a) ≡ codeOf s + a * 8 ^ length s
@@ -56,7 +56,7 @@ module _ (k : Desk) (costs : ByKind) (n : ℕ) (l kept : List ℕ) (top : ℕ) (
   abbrev here : Context
   here = record { key = c .key; span = c .span; left = c .left }
 
-  ready : Ready k costs n l s here (rank (keyOf (k .number) s) (keys (records n l)))
+  ready : Arrived k costs n l s here (rank (keyOf (k .number) s) (keys (records n l)))
   ready = record {
     weighable = q .weighable;
     priced = q .priced;
@@ -108,13 +108,13 @@ module _ (k : Desk) (costs : ByKind) (n : ℕ) (l kept : List ℕ) (top : ℕ) (
         }
 
     pub onward-next : a < k .symbols → length old ≡ top → from + length (sheetFor x (gather (k .symbols) (λ b. wanted (k .symbols) (c .left - 1) f w (older s b)))) ≤ top
-        → (new : List ℕ) (past′ : ℕ) → Written cur new past (sheetFor x (wanted (k .symbols) (c .left - 1) f w (older s a))) past′
+        → (new : List ℕ) (past′ : ℕ) → WroteAt cur new past (sheetFor x (wanted (k .symbols) (c .left - 1) f w (older s a))) past′
         → Onward k n l s (c .left - 1) (c .span / 8) (c .power) w from (a + 1) (key + c .span / 8) (code + c .power) old new past′
     onward-next lt long fits new past′ g = record {
       few = omega arith;
       key-is = omega (arith, t .key-is);
       code-is = omega (arith, t .code-is);
-      written = subst (λ (rows : List ℕ). Written old new from rows past′) (one-more a)
+      written = subst (λ (rows : List ℕ). WroteAt old new from rows past′) (one-more a)
           (written-append old cur new from past past′ _ _ (omega (arith, gather-room x (k .symbols) a (λ b. wanted (k .symbols) (c .left - 1) f w (older s b)) lt)) (t .written) g);
     }
       where
@@ -122,8 +122,8 @@ module _ (k : Desk) (costs : ByKind) (n : ℕ) (l kept : List ℕ) (top : ℕ) (
             ≡ sheetFor x (gather (a + 1) (λ b. wanted (k .symbols) (c .left - 1) f w (older s b)))
         one-more a = rw add-one (sym (gather-next x a (λ b. wanted (k .symbols) (c .left - 1) f w (older s b))))
 
-    pub onward-done : k .symbols ≤ a → Written old cur from (sheetFor x (gather (k .symbols) (λ b. wanted (k .symbols) (c .left - 1) f w (older s b)))) past
-    onward-done h = let e : a ≡ k .symbols = omega (arith, t .few) in subst (λ (m : ℕ). Written old cur from (sheetFor x (gather m (λ b. wanted (k .symbols) (c .left - 1) f w (older s b)))) past) e (t .written)
+    pub onward-done : k .symbols ≤ a → WroteAt old cur from (sheetFor x (gather (k .symbols) (λ b. wanted (k .symbols) (c .left - 1) f w (older s b)))) past
+    onward-done h = let e : a ≡ k .symbols = omega (arith, t .few) in subst (λ (m : ℕ). WroteAt old cur from (sheetFor x (gather m (λ b. wanted (k .symbols) (c .left - 1) f w (older s b)))) past) e (t .written)
 
   pub onward-begin : (w : Way) (from : ℕ) (old : List ℕ) → Onward k n l s (c .left - 1) (c .span / 8) (c .power) w from 0 (c .key + 1) (c .code) old old from
   unfolding gather sheetOf

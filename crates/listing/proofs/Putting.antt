@@ -15,7 +15,7 @@ use Rattle.rows.specs.Rows.{kindOf}
 use Rattle.listing.specs.declared.Way.{Way}
 use Rattle.listing.specs.declared.Plan.{Plan}
 use Rattle.listing.specs.Plans.{ownPlan, planOf}
-use Rattle.listing.specs.Writing.{Written, numbersIf, numbersHere, Roomy}
+use Rattle.listing.specs.Writing.{WroteAt, numbersIf, numbersHere, Roomy}
 use Rattle.listing.proofs.Sheets.{written-none, written-append}
 
 -- ---- a decision read back
@@ -44,7 +44,7 @@ own-plan-is m n p q a b c d e f g h = λ i. record { shared = false; first = e i
 
 -- ---- one row, or none
 
-pub if-none : (l : List ℕ) (to : ℕ) (on : Bool) (kind len code : ℕ) (counts : List (List ℕ)) → on ≡ false → Written l l to (numbersIf on kind len code counts) to
+pub if-none : (l : List ℕ) (to : ℕ) (on : Bool) (kind len code : ℕ) (counts : List (List ℕ)) → on ≡ false → WroteAt l l to (numbersIf on kind len code counts) to
 if-none l to on kind len code counts e = rw e (written-none l to)
 
 pub if-long : (on : Bool) (kind len code : ℕ) (counts : List (List ℕ)) → on ≡ true → length (numbersIf on kind len code counts) ≡ rowWidth
@@ -52,7 +52,7 @@ if-long on kind len code counts e = rw e
 
 pub if-one : (l ys : List ℕ) (to : ℕ) (on : Bool) (kind len code : ℕ) (counts : List (List ℕ)) → on ≡ true → to + rowWidth ≤ length l
     → ys ≡ (kind ∷ len ∷ code ∷ eight (countsIn counts (kindOf kind))) ++ drop rowWidth (take (to + rowWidth - to) (drop to l))
-    → Written l (take to l ++ (ys ++ drop (to + rowWidth - to) (drop to l))) to (numbersIf on kind len code counts) (to + rowWidth)
+    → WroteAt l (take to l ++ (ys ++ drop (to + rowWidth - to) (drop to l))) to (numbersIf on kind len code counts) (to + rowWidth)
 if-one l ys to on kind len code counts e h g =
     let row = kind ∷ len ∷ code ∷ eight (countsIn counts (kindOf kind)) in
     let k : to + rowWidth - to ≡ rowWidth = omega arith in
@@ -83,15 +83,15 @@ module _ (l : List ℕ) (to : ℕ) (plan : Plan) (len code : ℕ) (counts : List
   pub room-one : Roomy (length l) to (length one) counts
   room-one = record { room = omega (arith, roomy .room, all-long); counted = roomy .counted }
 
-  module _ (l₁ : List ℕ) (a : ℕ) (same₁ : length l₁ ≡ length l) (g : Written l l₁ to one a) where
+  module _ (l₁ : List ℕ) (a : ℕ) (same₁ : length l₁ ≡ length l) (g : WroteAt l l₁ to one a) where
     pub room-two : Roomy (length l₁) a (length two) counts
     room-two = record { room = omega (arith, roomy .room, all-long, g .past-is); counted = roomy .counted }
 
-    module _ (l₂ : List ℕ) (b : ℕ) (same₂ : length l₂ ≡ length l₁) (h : Written l₁ l₂ a two b) where
+    module _ (l₂ : List ℕ) (b : ℕ) (same₂ : length l₂ ≡ length l₁) (h : WroteAt l₁ l₂ a two b) where
       pub room-three : Roomy (length l₂) b (length three) counts
       room-three = record { room = omega (arith, roomy .room, all-long, g .past-is, h .past-is); counted = roomy .counted }
 
-      pub put-all : (l₃ : List ℕ) (r : ℕ) → Written l₂ l₃ b three r → Written l l₃ to (numbersHere plan len code counts) r
+      pub put-all : (l₃ : List ℕ) (r : ℕ) → WroteAt l₂ l₃ b three r → WroteAt l l₃ to (numbersHere plan len code counts) r
       put-all l₃ r f = written-append l l₁ l₃ to a r one (two ++ three) (room-one .room) g (written-append l₁ l₂ l₃ a b r two three (room-two .room) h f)
 
 -- .. where the plan and the counts are known by equations
@@ -99,5 +99,5 @@ module _ (plan plan′ : Plan) (len code : ℕ) (counts counts′ : List (List �
   pub roomy-as : (top to : ℕ) → Roomy top to (length (numbersHere plan′ len code counts′)) counts′ → Roomy top to (length (numbersHere plan len code counts)) counts
   roomy-as top to r = subst₂ (λ (x : Plan) (y : List (List ℕ)). Roomy top to (length (numbersHere x len code y)) y) (sym p) (sym q) r
 
-  pub written-as : (l m : List ℕ) (to r : ℕ) → Written l m to (numbersHere plan len code counts) r → Written l m to (numbersHere plan′ len code counts′) r
-  written-as l m to r w = subst₂ (λ (x : Plan) (y : List (List ℕ)). Written l m to (numbersHere x len code y) r) p q w
+  pub written-as : (l m : List ℕ) (to r : ℕ) → WroteAt l m to (numbersHere plan len code counts) r → WroteAt l m to (numbersHere plan′ len code counts′) r
+  written-as l m to r w = subst₂ (λ (x : Plan) (y : List (List ℕ)). WroteAt l m to (numbersHere x len code y) r) p q w

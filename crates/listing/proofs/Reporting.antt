@@ -17,7 +17,7 @@ use Rattle.estimate.specs.declared.ByKind.{ByKind}
 use Rattle.rows.specs.Members.{gather}
 use Rattle.rows.specs.Walk.{older}
 use Rattle.records.specs.Records.{records, keys, lookup}
-use Rattle.records.specs.Held.{rank, held, tableOf}
+use Rattle.records.specs.Held.{rank, held, countTable}
 use Rattle.weighing.specs.declared.Desk.{Desk}
 use Rattle.listing.specs.declared.Plan.{Plan}
 use Rattle.listing.specs.declared.Spot.{Spot}
@@ -27,7 +27,7 @@ use Rattle.weighing.specs.Sitting.{sittingIn}
 use Rattle.weighing.specs.Trees.{markAt, markOf}
 use Rattle.listing.specs.Plans.{wanted, goesOn, planOf, hereOf}
 use Rattle.weighing.specs.Visit.{leafMark}
-use Rattle.listing.specs.Writing.{sheetFor, Written, numbersHere, keptMark, keptPlan, CanWrite, CanWriteHere, WroteNumbers}
+use Rattle.listing.specs.Writing.{sheetFor, WroteAt, numbersHere, keptMark, keptPlan, CanWrite, CanWriteHere, WroteNumbers}
 use Rattle.weighing.proofs.Cursor.{within}
 use Rattle.weighing.proofs.Flat.{mark-flat}
 use Rattle.weighing.proofs.Counts.{table-under, table-small, costs-small, absent-flat, absent-losses}
@@ -76,15 +76,15 @@ module _ (k : Desk) (costs : ByKind) (n : ℕ) (l kept : List ℕ) (top : ℕ) (
 
   -- ---- the rows at s itself
 
-  table-is : tableOf (lookup (c .key) (records n l)) ≡ table x s
-  table-is = ap (λ (z : ℕ). tableOf (lookup z (records n l))) (q .key-is) ∙ table-under k n l (q .weighable) s (q .context)
+  table-is : countTable (lookup (c .key) (records n l)) ≡ table x s
+  table-is = ap (λ (z : ℕ). countTable (lookup z (records n l))) (q .key-is) ∙ table-under k n l (q .weighable) s (q .context)
 
   pub len-is : k .depth - c .left ≡ length s
   len-is = omega (arith, q .left-is)
 
-  numbers-are : numbersHere (keptPlan n l kept costs c) (k .depth - c .left) (c .code) (tableOf (lookup (c .key) (records n l))) ≡ sheetFor x (hereOf plan s)
+  numbers-are : numbersHere (keptPlan n l kept costs c) (k .depth - c .left) (c .code) (countTable (lookup (c .key) (records n l))) ≡ sheetFor x (hereOf plan s)
   numbers-are =
-      ap (λ (p : Plan). numbersHere p (k .depth - c .left) (c .code) (tableOf (lookup (c .key) (records n l)))) plan-is
+      ap (λ (p : Plan). numbersHere p (k .depth - c .left) (c .code) (countTable (lookup (c .key) (records n l)))) plan-is
       ∙ ap (λ (t : List (List ℕ)). numbersHere plan (k .depth - c .left) (c .code) t) table-is
       ∙ ap₂ (λ (u v : ℕ). numbersHere plan u v (table x s)) len-is (q .code-is)
       ∙ here-numbers x s plan
@@ -118,13 +118,13 @@ module _ (k : Desk) (costs : ByKind) (n : ℕ) (l kept : List ℕ) (top : ℕ) (
     pub next-is : r .way ≡ plan .next
     next-is = g .way-is ∙ ap (λ (p : Plan). p .next) plan-is
 
-    pub wrote-here : Written before after to (sheetFor x (hereOf plan s)) (r .to)
-    wrote-here = subst (λ (rows : List ℕ). Written before after to rows (r .to)) numbers-are (g .written)
+    pub wrote-here : WroteAt before after to (sheetFor x (hereOf plan s)) (r .to)
+    wrote-here = subst (λ (rows : List ℕ). WroteAt before after to rows (r .to)) numbers-are (g .written)
 
     -- nothing is wanted of the children
-    pub stopped : goesOn (r .way) ≡ false → Written before after to (sheetFor x (wanted (k .symbols) (c .left) f (c .way) s)) (r .to)
+    pub stopped : goesOn (r .way) ≡ false → WroteAt before after to (sheetFor x (wanted (k .symbols) (c .left) f (c .way) s)) (r .to)
     stopped e =
-        subst (λ (rows : List ℕ). Written before after to rows (r .to))
+        subst (λ (rows : List ℕ). WroteAt before after to rows (r .to))
         (ap (sheetFor x) (sym (wanted-stop (k .symbols) f s (c .left) (c .way) (ap goesOn (sym next-is) ∙ e)))) wrote-here
 
     -- something is
@@ -152,8 +152,8 @@ module _ (k : Desk) (costs : ByKind) (n : ℕ) (l kept : List ℕ) (top : ℕ) (
       pub child-room : r .to + length childRows ≤ top
       child-room = omega (arith, q .room, ap length all-rows, length-append (sheetFor x (hereOf plan s)) childRows, wrote-here .past-is)
 
-      pub finished : length before ≡ top → (cur : List ℕ) (past : ℕ) → Written after cur (r .to) childRows past
-          → Written before cur to (sheetFor x (wanted (k .symbols) (c .left) f (c .way) s)) past
+      pub finished : length before ≡ top → (cur : List ℕ) (past : ℕ) → WroteAt after cur (r .to) childRows past
+          → WroteAt before cur to (sheetFor x (wanted (k .symbols) (c .left) f (c .way) s)) past
       finished long cur past h =
-          subst (λ (rows : List ℕ). Written before cur to rows past) (sym all-rows)
+          subst (λ (rows : List ℕ). WroteAt before cur to rows past) (sym all-rows)
           (written-append before after cur to (r .to) past (sheetFor x (hereOf plan s)) childRows (omega (arith, here-room)) wrote-here h)

@@ -19,22 +19,22 @@ use Rattle.rows.specs.Members.{Member, member, number, onlyIf, gather}
 use Rattle.rows.specs.Rows.{rowOf, numbersOf, sheetOf}
 use Rattle.listing.specs.declared.Plan.{Plan}
 use Rattle.listing.specs.Plans.{hereOf}
-use Rattle.listing.specs.Writing.{sheetFor, Written, numbersHere}
+use Rattle.listing.specs.Writing.{sheetFor, WroteAt, numbersHere}
 
 -- ---- what is written
 
-pub written-none : (l : List ℕ) (to : ℕ) → Written l l to [] to
+pub written-none : (l : List ℕ) (to : ℕ) → WroteAt l l to [] to
 written-none l to = record { sheet = sym (ap (λ (m : ℕ). take to l ++ drop m l) (add-zero to) ∙ take-append-drop to l); past-is = sym (add-zero to) }
 
 -- some numbers, and then others where they end
-module _ (old cur new : List ℕ) (to mid past : ℕ) (xs ys : List ℕ) (room : to + length xs ≤ length old) (g : Written old cur to xs mid) (h : Written cur new mid ys past) where
+module _ (old cur new : List ℕ) (to mid past : ℕ) (xs ys : List ℕ) (room : to + length xs ≤ length old) (g : WroteAt old cur to xs mid) (h : WroteAt cur new mid ys past) where
   front : length (take to old ++ xs) ≡ mid
   front = length-append (take to old) xs ∙ ap (λ (m : ℕ). m + length xs) (length-take-le to old (omega arith)) ∙ sym (g .past-is)
 
   cur-is : cur ≡ take to old ++ xs ++ drop mid old
   cur-is = g .sheet ∙ ap (λ (m : ℕ). take to old ++ (xs ++ drop m old)) (sym (g .past-is)) ∙ sym (append-assoc (take to old) xs (drop mid old))
 
-  pub written-append : Written old new to (xs ++ ys) past
+  pub written-append : WroteAt old new to (xs ++ ys) past
   written-append = record {
     sheet =
         h .sheet

@@ -18,7 +18,7 @@ use Rattle.weighing.specs.declared.Desk.{Desk}
 use Rattle.listing.specs.declared.Spot.{Spot}
 use Rattle.weighing.specs.Sitting.{sittingIn, Weighable}
 use Rattle.listing.specs.Plans.{wanted}
-use Rattle.listing.specs.Writing.{sheetFor, Written, rowsFrom, CanWrite, CanReport, Reports}
+use Rattle.listing.specs.Writing.{sheetFor, WroteAt, rowsFrom, CanWrite, CanReport, Listed}
 use Rattle.weighing.proofs.Whole.{root-key}
 
 module _ (k : Desk) (n : ℕ) (l : List ℕ) (w : Weighable k n l) where
@@ -44,5 +44,5 @@ module _ (k : Desk) (n : ℕ) (l : List ℕ) (w : Weighable k n l) where
     room = omega (arith, q .room, ap length root-rows);
   }
 
-  pub reported : (before after : List ℕ) (past : ℕ) → Written before after 0 (rowsFrom k n l [] rootSpot) past → Reports k n l before after
+  pub reported : (before after : List ℕ) (past : ℕ) → WroteAt before after 0 (rowsFrom k n l [] rootSpot) past → Listed k n l before after
   reported before after past g = record { sheet = subst (λ (rows : List ℕ). after ≡ rows ++ drop (length rows) before) root-rows (g .sheet ∙ rw zero-add) }

@@ -15,7 +15,7 @@ use Rattle.estimate.specs.declared.ByKind.{ByKind}
 use Rattle.rows.specs.Members.{Member}
 use Rattle.rows.specs.Rows.{rowOf, reportOf, sheetOf, kindOf}
 use Rattle.records.specs.Records.{records, keys, lookup}
-use Rattle.records.specs.Held.{rank, held, tableOf, Standing}
+use Rattle.records.specs.Held.{rank, held, countTable, Standing}
 use Rattle.weighing.specs.declared.Desk.{Desk}
 use Rattle.listing.specs.declared.Plan.{Plan}
 use Rattle.listing.specs.declared.Spot.{Spot}
@@ -30,7 +30,7 @@ abbrev pub sheetFor : Sitting → List Member → List ℕ
 sheetFor x ps = sheetOf (map (rowOf x) ps)
 
 -- the numbers stand on the sheet from a place on, the rest is as it was; the place after them
-pub record Written (before after : List ℕ) (to : ℕ) (rows : List ℕ) (past : ℕ) : Type 0 where
+pub record WroteAt (before after : List ℕ) (to : ℕ) (rows : List ℕ) (past : ℕ) : Type 0 where
   pub sheet : after ≡ take to before ++ (rows ++ drop (to + length rows) before)
   pub past-is : past ≡ to + length rows
 
@@ -77,11 +77,11 @@ pub record CanWriteHere (n : ℕ) (l kept : List ℕ) (costs : ByKind) (top : �
   pub standing : Standing n l
   pub beside : n ≤ length kept
   pub small : Small costs
-  pub roomy : Roomy top to (length (numbersHere (keptPlan n l kept costs c) len (c .code) (tableOf (lookup (c .key) (records n l))))) (tableOf (lookup (c .key) (records n l)))
+  pub roomy : Roomy top to (length (numbersHere (keptPlan n l kept costs c) len (c .code) (countTable (lookup (c .key) (records n l))))) (countTable (lookup (c .key) (records n l)))
 
 pub record WroteNumbers (n : ℕ) (l kept : List ℕ) (costs : ByKind) (before after : List ℕ) (c : Spot) (len to : ℕ) (r : Step) : Type 0 where
   pub way-is : r .way ≡ keptPlan n l kept costs c .next
-  pub written : Written before after to (numbersHere (keptPlan n l kept costs c) len (c .code) (tableOf (lookup (c .key) (records n l)))) (r .to)
+  pub written : WroteAt before after to (numbersHere (keptPlan n l kept costs c) len (c .code) (countTable (lookup (c .key) (records n l)))) (r .to)
 
 -- what the writing of a report asks: the decisions of a weighing, and room on the sheet
 pub record CanReport (k : Desk) (n : ℕ) (l kept sheet : List ℕ) : Type 0 where
@@ -90,5 +90,5 @@ pub record CanReport (k : Desk) (n : ℕ) (l kept sheet : List ℕ) : Type 0 whe
   pub room : length (sheetOf (reportOf (sittingIn k (records n l)))) ≤ length sheet
 
 -- the rows of the report stand at the beginning of the sheet, and every number after them is as it was
-pub record Reports (k : Desk) (n : ℕ) (l before after : List ℕ) : Type 0 where
+pub record Listed (k : Desk) (n : ℕ) (l before after : List ℕ) : Type 0 where
   pub sheet : after ≡ sheetOf (reportOf (sittingIn k (records n l))) ++ drop (length (sheetOf (reportOf (sittingIn k (records n l))))) before

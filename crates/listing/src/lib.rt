@@ -8,7 +8,7 @@ ghost use Rattle.contexts.specs.Keys.{contextOf};
 ghost use Rattle.logarithm.specs.Table.{AreLogs};
 ghost use Rattle.records.specs.Held.{Standing};
 ghost use Rattle.listing.specs.Plans.{goesOn, ownPlan, planOf};
-ghost use Rattle.listing.specs.Writing.{Written, numbersIf, numbersHere, Roomy, rowsFrom, CanWrite, CanWriteHere, WroteNumbers, keptMark, CanReport, Reports};
+ghost use Rattle.listing.specs.Writing.{WroteAt, numbersIf, numbersHere, Roomy, rowsFrom, CanWrite, CanWriteHere, WroteNumbers, keptMark, CanReport, Listed};
 ghost use Rattle.weighing.specs.Visit.{Small};
 use estimate::ByKind;
 use numbers::ROW_WIDTH;
@@ -27,7 +27,7 @@ pub fn write_rows(
     sheet: &mut [u32],
 )
     requires { ⌜ AreLogs (now logs) × CanReport desk n (now numbers) (now kept) (now sheet) ⌝ }
-    ensures { λ _. ⌜ Reports desk n (now (numbers .entry)) (now (sheet .entry)) (now (sheet .exit)) ⌝ }
+    ensures { λ _. ⌜ Listed desk n (now (numbers .entry)) (now (sheet .entry)) (now (sheet .exit)) ⌝ }
 {
     let costs = estimate::costs_of(logs, desk.symbols, desk.n, desk.m);
     let way = Way {
@@ -90,7 +90,7 @@ fn write_from(
     to: usize,
 ) -> usize
     requires { ⌜ CanWrite desk costs n (now numbers) (now kept) (length (now sheet)) (contextOf (spot .key)) spot to ⌝ }
-    ensures { λ r. ⌜ Written (now (sheet .entry)) (now (sheet .exit)) to (rowsFrom desk n (now (numbers .entry)) (contextOf (spot .key)) spot) r ⌝ }
+    ensures { λ r. ⌜ WroteAt (now (sheet .entry)) (now (sheet .exit)) to (rowsFrom desk n (now (numbers .entry)) (contextOf (spot .key)) spot) r ⌝ }
 {
     let step = write_here(
         numbers,
@@ -176,7 +176,7 @@ fn put_here(
     counts: [[u32; 8]; 2],
 ) -> usize
     requires { ⌜ Roomy (length (now sheet)) to (length (numbersHere plan len code counts)) counts ⌝ }
-    ensures { λ r. ⌜ Written (now (sheet .entry)) (now (sheet .exit)) to (numbersHere plan len code counts) r ⌝ }
+    ensures { λ r. ⌜ WroteAt (now (sheet .entry)) (now (sheet .exit)) to (numbersHere plan len code counts) r ⌝ }
 {
     let a = put_if(sheet, to, plan.shared, 0, len, code, counts);
     let b = put_if(sheet, a, plan.first, 1, len, code, counts);
@@ -194,7 +194,7 @@ fn put_if(
     counts: [[u32; 8]; 2],
 ) -> usize
     requires { ⌜ Roomy (length (now sheet)) to (length (numbersIf on kind len code counts)) counts ⌝ }
-    ensures { λ r. ⌜ Written (now (sheet .entry)) (now (sheet .exit)) to (numbersIf on kind len code counts) r ⌝ }
+    ensures { λ r. ⌜ WroteAt (now (sheet .entry)) (now (sheet .exit)) to (numbersIf on kind len code counts) r ⌝ }
 {
     if !on {
         return to;

@@ -26,8 +26,8 @@ abbrev pub recordAt : ℕ → List ℕ → List ℕ
 recordAt p l = take width (drop (width * p) l)
 
 -- "a table of two samples by eight symbols": a record's counts
-abbrev pub tableOf : List ℕ → List (List ℕ)
-tableOf r = countsOf first r ∷ countsOf second r ∷ []
+abbrev pub countTable : List ℕ → List (List ℕ)
+countTable r = countsOf first r ∷ countsOf second r ∷ []
 
 -- N(s,a) of a sample as it stands under a key, and 0 where no record has it
 abbrev pub countAt : ℕ → Sample → ℕ → List (List ℕ) → ℕ

@@ -4,7 +4,7 @@ ghost use Prim.Native.Nat.{_+_, _*_, _^_, _≤_, _<_};
 ghost use lib.ListN.{length, take, drop, getD};
 ghost use Rattle.numbers.specs.Limits.{mostSymbols};
 ghost use Rattle.records.specs.Records.{width, records, lookup};
-ghost use Rattle.records.specs.Held.{held, recordAt, tableOf, Standing, Placed, Bounded, Onward};
+ghost use Rattle.records.specs.Held.{held, recordAt, countTable, Standing, Placed, Bounded, Onward};
 ghost use Rattle.records.specs.Fed.{Askable};
 ghost use Rattle.records.specs.Located.{Located};
 
@@ -35,7 +35,7 @@ struct Bounds {
 // The counts of the record at a place.
 pub fn counts_at(numbers: &[u32], at: usize) -> [[u32; 8]; 2]
     requires { ⌜ width * (at + 1) ≤ length (now numbers) ⌝ }
-    ensures { λ r. ⌜ r ≡ tableOf (recordAt at (now (numbers .entry))) ⌝ }
+    ensures { λ r. ⌜ r ≡ countTable (recordAt at (now (numbers .entry))) ⌝ }
 {
     let first = eight_at(numbers, WIDTH * at + 1);
     let second = eight_at(numbers, WIDTH * at + (1 + COUNTS));
@@ -87,7 +87,7 @@ pub fn seek(numbers: &[u32], n: usize, desk: u32, recent: &[u32]) -> Sought
 // The counts under a key: zeros where none of the first `n` records has it.
 pub fn table_of(numbers: &[u32], n: usize, key: u32) -> [[u32; 8]; 2]
     requires { ⌜ Standing n (now numbers) ⌝ }
-    ensures { λ r. ⌜ r ≡ tableOf (lookup key (records n (now (numbers .entry)))) ⌝ }
+    ensures { λ r. ⌜ r ≡ countTable (lookup key (records n (now (numbers .entry)))) ⌝ }
 {
     let at = place_of(numbers, n, key);
     if at < n {

@@ -9,7 +9,7 @@ use Rattle.replay.specs.Room.{Opening, Room, new, reserved, left}
 use Rattle.replay.specs.Table.{Line, _when_, Outcome, refused, answered, verdictOf}
 use Rattle.replay.specs.Machine.{Rules, outsideLimits, zeroOrAboveK, aboveRoomLeft, put, settle, opening, asking, closing, Call, atDesk, roomQuestion, openingTable, ownLines, askingTable, closingTable, tableAt, tableOf, answerAt, answerOf, verdict, moved, shift, move}
 use Rattle.replay.specs.Serial.{outcomes, calls, answers, struck, played, joined, entered, sittings, oldestFirst, serial}
-use Rattle.replay.specs.Real.{Contracts, Made, Runs}
+use Rattle.replay.specs.Real.{Contracts, Made, RunsReal}
 use Rattle.replay.proofs.RealRuns.{real-answers, real-room}
 
 data Said : Type 0 where
@@ -103,8 +103,8 @@ new-made xs = record { sound = tt; empty = refl }
 
 -- demand 3 for two toy stores that differ in all that stands for nothing
 module _ (xs ys : List ℕ) (τ τ′ : Store) (cs : List (Call toy)) (os os′ : List (Outcome Said))
-    (run : Runs toy Store toyContracts (newStore xs) cs os τ)
-    (again : Runs toy Store toyContracts (newStore ys) (calls toy (serial toy (struck toy cs os))) os′ τ′) where
+    (run : RunsReal toy Store toyContracts (newStore xs) cs os τ)
+    (again : RunsReal toy Store toyContracts (newStore ys) (calls toy (serial toy (struck toy cs os))) os′ τ′) where
   toy-answers : os′ ≡ answers toy (serial toy (struck toy cs os))
   toy-answers = real-answers toy Store toyContracts 10 (newStore xs) τ (newStore ys) τ′ cs os os′ (new-made xs) run (new-made ys) again
 

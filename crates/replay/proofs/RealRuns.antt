@@ -7,7 +7,7 @@ use Rattle.replay.specs.Table.{Outcome, answered}
 use Rattle.replay.specs.Machine.{Rules, asking, Call, atDesk, verdict}
 use Rattle.replay.specs.Serial.{outcomes, after, calls, answers, struck, sittings, serial}
 use Rattle.replay.specs.Alone.{OpenAlone, AnsweredAlone}
-use Rattle.replay.specs.Real.{Contracts, Made, Runs, stop, then}
+use Rattle.replay.specs.Real.{Contracts, Made, RunsReal, stop, then}
 use Rattle.replay.proofs.Replay.{replay}
 use Rattle.replay.proofs.Reached.{open-alone, answered-alone}
 
@@ -19,24 +19,24 @@ module _ (R : Rules) (Store : Type 0) (𝓒 : Contracts R Store) where
       (𝓒 .answers σ τ c o s d ∙ sym (𝓒 .answers σ τ′ c o′ s e), 𝓒 .leaves σ τ c o s d ∙ sym (𝓒 .leaves σ τ′ c o′ s e))
 
   -- a store stays sound along a run
-  pub runs-sound : {σ τ : Store} {cs : List (Call R)} {os : List (Outcome (R .Answer))} → 𝓒 .Sound σ → Runs R Store 𝓒 σ cs os τ → 𝓒 .Sound τ
+  pub runs-sound : {σ τ : Store} {cs : List (Call R)} {os : List (Outcome (R .Answer))} → 𝓒 .Sound σ → RunsReal R Store 𝓒 σ cs os τ → 𝓒 .Sound τ
   runs-sound s stop = s
   runs-sound s (then d r) = runs-sound (𝓒 .stays _ _ _ _ s d) r
 
   -- a run answers as the room does, and its store stands for the room that is left
-  pub runs-answer : {σ τ : Store} {cs : List (Call R)} {os : List (Outcome (R .Answer))} → 𝓒 .Sound σ → Runs R Store 𝓒 σ cs os τ → os ≡ outcomes R (𝓒 .meaning σ) cs
+  pub runs-answer : {σ τ : Store} {cs : List (Call R)} {os : List (Outcome (R .Answer))} → 𝓒 .Sound σ → RunsReal R Store 𝓒 σ cs os τ → os ≡ outcomes R (𝓒 .meaning σ) cs
   unfolding outcomes
   runs-answer s stop = refl
   runs-answer s (then {cs = cs} d r) =
       ap₂ _∷_ (𝓒 .answers _ _ _ _ s d) (runs-answer (𝓒 .stays _ _ _ _ s d) r ∙ ap (λ m. outcomes R m cs) (𝓒 .leaves _ _ _ _ s d))
 
-  pub runs-leave : {σ τ : Store} {cs : List (Call R)} {os : List (Outcome (R .Answer))} → 𝓒 .Sound σ → Runs R Store 𝓒 σ cs os τ → 𝓒 .meaning τ ≡ after R (𝓒 .meaning σ) cs
+  pub runs-leave : {σ τ : Store} {cs : List (Call R)} {os : List (Outcome (R .Answer))} → 𝓒 .Sound σ → RunsReal R Store 𝓒 σ cs os τ → 𝓒 .meaning τ ≡ after R (𝓒 .meaning σ) cs
   unfolding after
   runs-leave s stop = refl
   runs-leave s (then {cs = cs} d r) = runs-leave (𝓒 .stays _ _ _ _ s d) r ∙ ap (λ m. after R m cs) (𝓒 .leaves _ _ _ _ s d)
 
   -- A run on a store that was made.
-  module _ (K : Making) (σ τ : Store) (cs : List (Call R)) (os : List (Outcome (R .Answer))) (made : Made R Store 𝓒 K σ) (run : Runs R Store 𝓒 σ cs os τ) where
+  module _ (K : Making) (σ τ : Store) (cs : List (Call R)) (os : List (Outcome (R .Answer))) (made : Made R Store 𝓒 K σ) (run : RunsReal R Store 𝓒 σ cs os τ) where
     pub made-answers : os ≡ outcomes R (new K) cs
     made-answers = runs-answer (made .sound) run ∙ ap (λ m. outcomes R m cs) (made .empty)
 
@@ -57,8 +57,8 @@ module _ (R : Rules) (Store : Type 0) (𝓒 : Contracts R Store) where
   -- DEMAND 3. Two stores newly made of one size, of any contents and lengths; any run on the one, and on the other its calls,
   -- the refused ones and the room questions struck out, one sitting after another.
   module _ (K : Making) (σ τ σ′ τ′ : Store) (cs : List (Call R)) (os os′ : List (Outcome (R .Answer)))
-      (made : Made R Store 𝓒 K σ) (run : Runs R Store 𝓒 σ cs os τ)
-      (made′ : Made R Store 𝓒 K σ′) (again : Runs R Store 𝓒 σ′ (calls R (serial R (struck R cs os))) os′ τ′) where
+      (made : Made R Store 𝓒 K σ) (run : RunsReal R Store 𝓒 σ cs os τ)
+      (made′ : Made R Store 𝓒 K σ′) (again : RunsReal R Store 𝓒 σ′ (calls R (serial R (struck R cs os))) os′ τ′) where
     -- nothing is refused, and every call answers as before
     pub real-answers : os′ ≡ answers R (serial R (struck R cs os))
     real-answers = made-answers K σ′ τ′ _ os′ made′ again ∙ rw (made-answers K σ τ cs os made run) (replay R K cs .alike)

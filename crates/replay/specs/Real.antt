@@ -22,7 +22,7 @@ module _ (R : Rules) (Store : Type 0) where
       pub empty : 𝓒 .meaning σ ≡ new K
 
     -- calls one after the other, what each answered, and the store at the end
-    pub data Runs : Store → List (Call R) → List (Outcome (R .Answer)) → Store → Type 0 where
-      stop : {σ : Store} → Runs σ [] [] σ
+    pub data RunsReal : Store → List (Call R) → List (Outcome (R .Answer)) → Store → Type 0 where
+      stop : {σ : Store} → RunsReal σ [] [] σ
       then : {σ τ υ : Store} {c : Call R} {cs : List (Call R)} {o : Outcome (R .Answer)} {os : List (Outcome (R .Answer))}
-          → 𝓒 .Does σ c o τ → Runs τ cs os υ → Runs σ (c ∷ cs) (o ∷ os) υ
+          → 𝓒 .Does σ c o τ → RunsReal τ cs os υ → RunsReal σ (c ∷ cs) (o ∷ os) υ

@@ -14,7 +14,7 @@ use Rattle.store.specs.Layout.{headerSize, used, recordsIn}
 use Rattle.store.specs.Meaning.{sittingAt}
 use Rattle.weighing.specs.Sitting.{sittingIn, Weighable}
 use Rattle.weighing.specs.Weighs.{Decided}
-use Rattle.listing.specs.Writing.{CanReport, Reports}
+use Rattle.listing.specs.Writing.{CanReport, Listed}
 use Rattle.weighing.specs.declared.Desk.{Desk}
 use Rattle.calls.specs.Promises.{withRows}
 use Rattle.report.specs.Desk.{CanReportOn, DecidedDesk}
@@ -45,7 +45,7 @@ module _ (s : List ℕ) (k : Desk) (c : CanReportOn s k) where
       room = rw (rows-are, length-drop (rowWidth * place) sheet) (omega (arith, sheet-length (reportOf (sittingAt s (k .number))) all-fit));
     }
 
-    pub has-written : (part after : List ℕ) → Reports k (used s) (drop headerSize s) (drop (rowWidth * place) sheet) part
+    pub has-written : (part after : List ℕ) → Listed k (used s) (drop headerSize s) (drop (rowWidth * place) sheet) part
         → after ≡ take (rowWidth * place) sheet ++ (part ++ drop (length sheet - rowWidth * place) (drop (rowWidth * place) sheet))
         → after ≡ withRows place (reportOf (sittingAt s (k .number))) sheet
     has-written part after w e =

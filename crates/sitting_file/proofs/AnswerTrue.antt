@@ -9,7 +9,7 @@ use lib.Seq.{drop-at}
 use borrow.Author.Tests.{lt-ltb, le-ltb}
 use Rattle.numbers.specs.Limits.{fewestSymbols, mostSymbols, deepest, longest}
 use Rattle.sitting_file.specs.Format.{firstGroup, numberAt, andThen, headerOf, symbolsFrom, bodyOf, readOf}
-use Rattle.sitting_file.specs.Verdict.{Bytes, shortest, written, withHeader, Due, from-to, dueAfter, Fits, Follow, FaultAt, FaultIn, Verdict}
+use Rattle.sitting_file.specs.Verdict.{Bytes, shortest, written, withHeader, Due, from-to, dueAfter, MeetsDue, Follow, FaultAt, FaultIn, Verdict}
 use Rattle.sitting_file.specs.declared.Shape.{Shape}
 use Rattle.sitting_file.specs.declared.Refusal.{Refusal}
 use Rattle.sitting_file.specs.declared.Number.{Number}
@@ -48,7 +48,7 @@ module _ (file : List ℕ) where
               rest = f .rest;
               split = r .split ∙ ap (λ (l : List ℕ). written before ++ l) (f .split) ∙ written-more before v (f .rest);
               place = placed ∙ sym long;
-              follow = follow-more [] before v (r .follow) (subst (λ (d : Due). Fits d v) (sym e) (s .1, s .2));
+              follow = follow-more [] before v (r .follow) (subst (λ (d : Due). MeetsDue d v) (sym e) (s .1, s .2));
               bytes = f .left;
             })
 

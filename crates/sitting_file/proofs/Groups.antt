@@ -10,7 +10,7 @@ use lib.ListN.{length, getD, drop, length-drop}
 use lib.Seq.{getD-drop}
 use lib.Dec.{leb, eqb}
 use borrow.Author.Tests.{leb-true, leb-false, eqb-true, eqb-false}
-use Rattle.sitting_file.specs.Format.{highBit, joined, judgedNumber, secondGroup, firstGroup, numberAt}
+use Rattle.sitting_file.specs.Format.{highBit, groupsJoined, judgedNumber, secondGroup, firstGroup, numberAt}
 use Rattle.sitting_file.specs.declared.Refusal.{Refusal}
 use Rattle.sitting_file.specs.declared.Refusal.the-variants.{EndsEarly, NotShortest, OutsideLimits}
 use Rattle.sitting_file.specs.declared.Number.{Number}
@@ -19,7 +19,7 @@ use Rattle.sitting_file.specs.declared.Number.the-variants.{Value, Fault
 -- the number v begins the bytes, in one group or in two, of which the second is not 0; the place after it is next
 pub data Stands (at : ℕ) : ℕ → ℕ → List ℕ → Type 0 where
   one : {v : ℕ} {rest : List ℕ} → v < highBit → Stands at v (at + 1) (v ∷ rest)
-  two : {b c : ℕ} {rest : List ℕ} → highBit ≤ b → 0 < c → c < highBit → Stands at (joined b c) (at + 1 + 1) (b ∷ c ∷ rest)
+  two : {b c : ℕ} {rest : List ℕ} → highBit ≤ b → 0 < c → c < highBit → Stands at (groupsJoined b c) (at + 1 + 1) (b ∷ c ∷ rest)
 
 -- what an answer tells of the bytes
 pub data Told (low high at : ℕ) : List ℕ → Number → Type 0 where
@@ -44,12 +44,12 @@ module _ (low high at : ℕ) where
   second-tells b [] big = half big
   second-tells b (c ∷ rest) big = go (leb highBit c) (eqb c 0) refl refl
     where
-      go : (p q : Bool) → leb highBit c ≡ p → eqb c 0 ≡ q → Told low high at (b ∷ c ∷ rest) (cond (p || q) (Fault NotShortest) (judgedNumber low high (joined b c) (at + 1 + 1)))
+      go : (p q : Bool) → leb highBit c ≡ p → eqb c 0 ≡ q → Told low high at (b ∷ c ∷ rest) (cond (p || q) (Fault NotShortest) (judgedNumber low high (groupsJoined b c) (at + 1 + 1)))
       go true q h z = not-short big (inl (leb-true highBit c h))
       go false true h z = not-short big (inr (eqb-true c 0 z))
       go false false h z =
           let nonzero : c ≡ 0 → ⊥ = eqb-false c 0 z in
-          judged-tells (joined b c) (at + 1 + 1) (b ∷ c ∷ rest) (two big (omega arith) (leb-false highBit c h))
+          judged-tells (groupsJoined b c) (at + 1 + 1) (b ∷ c ∷ rest) (two big (omega arith) (leb-false highBit c h))
 
   pub tells : (bytes : List ℕ) → Told low high at bytes (firstGroup low high at bytes)
   unfolding firstGroup

@@ -7,7 +7,7 @@ use native.Mathlib.Omega.{arith}
 use lib.ListN.{length, getD, drop, drop-of-length-le}
 use lib.Seq.{drop-cons}
 use borrow.Author.Tests.{lt-ltb, le-ltb, le-leb, lt-leb, eq-eqb, ne-eqb}
-use Rattle.sitting_file.specs.Format.{highBit, joined, judgedNumber, secondGroup, firstGroup, numberAt, symbolsFrom}
+use Rattle.sitting_file.specs.Format.{highBit, groupsJoined, judgedNumber, secondGroup, firstGroup, numberAt, symbolsFrom}
 use Rattle.sitting_file.specs.declared.Shape.{Shape}
 use Rattle.sitting_file.specs.declared.Refusal.{Refusal}
 use Rattle.sitting_file.specs.declared.Refusal.the-variants.{EndsEarly, NotShortest, OutsideLimits, BytesLeft}
@@ -60,7 +60,7 @@ module _ (file : List ℕ) (at low high : ℕ) where
     unfolding secondGroup
     empty-group h z = rw (here h, lt-leb highBit byte (omega arith), eq-eqb byte 0 z)
 
-    pub both-groups : at < length file → (byte ≡ 0 → ⊥) → byte < highBit → secondGroup low high b at (drop at file) ≡ judgedNumber low high (joined b byte) (at + 1)
+    pub both-groups : at < length file → (byte ≡ 0 → ⊥) → byte < highBit → secondGroup low high b at (drop at file) ≡ judgedNumber low high (groupsJoined b byte) (at + 1)
     unfolding secondGroup
     both-groups h z k = rw (here h, lt-leb highBit byte k, ne-eqb byte 0 z)
 

@@ -8,7 +8,7 @@ use native.Mathlib.Omega.{arith}
 use lib.ListN.{length}
 use lib.Dec.{ltb, leb, eqb}
 use borrow.Author.Tests.{ltb-true, ltb-false, leb-true, leb-false, lt-ltb, le-ltb, le-leb, lt-leb, eq-eqb, ne-eqb}
-use Rattle.sitting_file.specs.Format.{highBit, joined, judgedNumber, secondGroup, firstGroup}
+use Rattle.sitting_file.specs.Format.{highBit, groupsJoined, judgedNumber, secondGroup, firstGroup}
 use Rattle.sitting_file.specs.Verdict.{Bytes, twoGroups, shortest, from-to, FaultAt}
 use Rattle.sitting_file.specs.declared.Refusal.{Refusal}
 use Rattle.sitting_file.specs.declared.Refusal.the-variants.{EndsEarly, NotShortest, OutsideLimits, BytesLeft}
@@ -37,7 +37,7 @@ read-back low high at v rest h = go (ltb v highBit) refl
     go false e =
         let big : highBit ≤ v = ltb-false v highBit e in
         let nonzero : v / highBit ≡ 0 → ⊥ = omega arith in
-        let value : joined (highBit + v % highBit) (v / highBit) ≡ v = omega arith in
+        let value : groupsJoined (highBit + v % highBit) (v / highBit) ≡ v = omega arith in
         let end : at + 1 + 1 ≡ at + 2 = omega arith in
         rw (two-bytes v big, le-leb highBit (highBit + v % highBit) (omega arith), lt-leb highBit (v / highBit) (omega arith), ne-eqb (v / highBit) 0 nonzero, value, end)
 
@@ -54,9 +54,9 @@ pub record Form (at v next : ℕ) (bytes : List ℕ) : Type 0 where
 pub form : {at v next : ℕ} {bytes : List ℕ} → Stands at v next bytes → Bytes bytes → Form at v next bytes
 form {at} (one {v} {rest} small) bytes = record { rest = rest; split = rw (one-byte v small); place = rw (one-byte v small); small = omega arith; left = λ i. bytes (suc i) }
 form {at} (two {b} {c} {rest} big low high) bytes =
-    let v = joined b c in
+    let v = groupsJoined b c in
     let less : b < 256 = bytes 0 in
-    let large : highBit ≤ joined b c = omega arith in
+    let large : highBit ≤ groupsJoined b c = omega arith in
     let lowest : highBit + v % highBit ≡ b = omega arith in
     let highest : v / highBit ≡ c = omega arith in
     let end : at + 1 + 1 ≡ at + 2 = omega arith in
@@ -89,7 +89,7 @@ fault-found NotShortest low high at bytes f = rw (f .5, le-leb highBit (f .0) (f
     or-true true = refl
     or-true false = refl
 
-    go : (highBit ≤ f .1) ⊎ (f .1 ≡ 0) → cond (leb highBit (f .1) || eqb (f .1) 0) (Fault NotShortest) (judgedNumber low high (joined (f .0) (f .1)) (at + 1 + 1)) ≡ Fault NotShortest
+    go : (highBit ≤ f .1) ⊎ (f .1 ≡ 0) → cond (leb highBit (f .1) || eqb (f .1) 0) (Fault NotShortest) (judgedNumber low high (groupsJoined (f .0) (f .1)) (at + 1 + 1)) ≡ Fault NotShortest
     go (inl h) = rw (le-leb highBit (f .1) h)
     go (inr z) = rw (eq-eqb (f .1) 0 z, or-true (leb highBit (f .1)))
 fault-found OutsideLimits low high at bytes f = ap (firstGroup low high at) (f .4) ∙ read-back low high at (f .0) (f .1) (f .2) ∙ go (f .3)

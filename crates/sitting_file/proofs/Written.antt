@@ -9,7 +9,7 @@ use lib.Dec.{ltb}
 use borrow.Author.Tests.{ltb-true, lt-ltb}
 use Rattle.numbers.specs.Limits.{fewestSymbols}
 use Rattle.sitting_file.specs.Samples.{Below}
-use Rattle.sitting_file.specs.Verdict.{shortest, written, withHeader, OfFormat, from-to, nothing, dueAfter, Fits, Follow}
+use Rattle.sitting_file.specs.Verdict.{shortest, written, withHeader, OfFormat, from-to, nothing, dueAfter, MeetsDue, Follow}
 use Rattle.sitting_file.specs.declared.Shape.{Shape}
 
 pub written-append : (us vs : List ℕ) → written (us ++ vs) ≡ written us ++ written vs
@@ -20,9 +20,9 @@ written-append (u ∷ us) vs = ap (λ (l : List ℕ). shortest u ++ l) (written-
 pub written-more : (us : List ℕ) (v : ℕ) (rest : List ℕ) → written us ++ (shortest v ++ rest) ≡ written (us ++ v ∷ []) ++ rest
 written-more us v rest = rw (written-append us (v ∷ []), append-assoc (written us) (shortest v ++ []) rest, append-assoc (shortest v) [] rest)
 
-pub follow-more : (us vs : List ℕ) (v : ℕ) → Follow us vs → Fits (dueAfter (us ++ vs)) v → Follow us (vs ++ v ∷ [])
-follow-more us [] v f w = (subst (λ (l : List ℕ). Fits (dueAfter l) v) (append-nil us) w, tt)
-follow-more us (x ∷ vs) v f w = (f .0, follow-more (us ++ x ∷ []) vs v (f .1) (subst (λ (l : List ℕ). Fits (dueAfter l) v) (sym (append-assoc us (x ∷ []) vs)) w))
+pub follow-more : (us vs : List ℕ) (v : ℕ) → Follow us vs → MeetsDue (dueAfter (us ++ vs)) v → Follow us (vs ++ v ∷ [])
+follow-more us [] v f w = (subst (λ (l : List ℕ). MeetsDue (dueAfter l) v) (append-nil us) w, tt)
+follow-more us (x ∷ vs) v f w = (f .0, follow-more (us ++ x ∷ []) vs v (f .1) (subst (λ (l : List ℕ). MeetsDue (dueAfter l) v) (sym (append-assoc us (x ∷ []) vs)) w))
 
 -- ---- symbols after a header
 
@@ -31,10 +31,10 @@ module _ (shape : Shape) where
   wanted = shape .first + shape .second
 
   -- one more symbol is due only where fewer than n + m stand, and it is below A
-  pub symbol-due : (us : List ℕ) (v : ℕ) → Fits (dueAfter (withHeader shape us)) v → (length us < wanted) × (v ≤ shape .alphabet - 1)
+  pub symbol-due : (us : List ℕ) (v : ℕ) → MeetsDue (dueAfter (withHeader shape us)) v → (length us < wanted) × (v ≤ shape .alphabet - 1)
   symbol-due us v f = go (ltb (length us) wanted) refl f
     where
-      go : (t : Bool) → ltb (length us) wanted ≡ t → Fits (cond t (from-to 0 (shape .alphabet - 1)) nothing) v → (length us < wanted) × (v ≤ shape .alphabet - 1)
+      go : (t : Bool) → ltb (length us) wanted ≡ t → MeetsDue (cond t (from-to 0 (shape .alphabet - 1)) nothing) v → (length us < wanted) × (v ≤ shape .alphabet - 1)
       go true e f = (ltb-true (length us) wanted e, f .1)
       go false e f = absurd f
 

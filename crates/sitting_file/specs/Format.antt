@@ -32,8 +32,8 @@ abbrev pub groupFollows : ℕ → Bool
 groupFollows b = leb highBit b
 
 -- "groups of seven bits, lowest first": the number of a first group that goes on and a second that does not
-abbrev pub joined : ℕ → ℕ → ℕ
-joined b c = b - highBit + highBit * c
+abbrev pub groupsJoined : ℕ → ℕ → ℕ
+groupsJoined b c = b - highBit + highBit * c
 
 -- a number that has been read whole, judged by its limits, with the place after it
 unfoldable pub judgedNumber : ℕ → ℕ → ℕ → ℕ → Number
@@ -42,7 +42,7 @@ judgedNumber low high v next = cond (leb low v && leb v high) (Value v next) (Fa
 -- the second group, judged at that byte: it ends the number, and is not 0
 unfoldable pub secondGroup : ℕ → ℕ → ℕ → ℕ → List ℕ → Number
 secondGroup low high b at [] = Fault EndsEarly
-secondGroup low high b at (c ∷ rest) = cond (groupFollows c || eqb c 0) (Fault NotShortest) (judgedNumber low high (joined b c) (at + 1))
+secondGroup low high b at (c ∷ rest) = cond (groupFollows c || eqb c 0) (Fault NotShortest) (judgedNumber low high (groupsJoined b c) (at + 1))
 
 -- the number that the bytes from a place on begin with
 unfoldable pub firstGroup : ℕ → ℕ → ℕ → List ℕ → Number

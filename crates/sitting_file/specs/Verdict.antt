@@ -61,14 +61,14 @@ dueAfter (A ∷ D ∷ n ∷ []) = from-to 0 longest
 dueAfter (A ∷ D ∷ n ∷ m ∷ symbols) = cond (ltb (length symbols) (n + m)) (from-to 0 (A - 1)) nothing
 
 -- a number is due, and v is within its limits
-abbrev pub Fits : Due → ℕ → Type 0
-Fits (from-to low high) v = (low ≤ v) × (v ≤ high)
-Fits nothing v = ⊥
+abbrev pub MeetsDue : Due → ℕ → Type 0
+MeetsDue (from-to low high) v = (low ≤ v) × (v ≤ high)
+MeetsDue nothing v = ⊥
 
 -- the numbers vs, which come after us, are within the limits that the numbers before each of them set
 abbrev pub Follow : List ℕ → List ℕ → Type 0
 Follow us [] = Unit {0}
-Follow us (v ∷ vs) = Fits (dueAfter us) v × Follow (us ++ v ∷ []) vs
+Follow us (v ∷ vs) = MeetsDue (dueAfter us) v × Follow (us ++ v ∷ []) vs
 
 -- 13: "file ends before its last number, header or symbol, is complete": no byte is left, or a first group that goes on
 abbrev pub Ends : Due → List ℕ → Type 0

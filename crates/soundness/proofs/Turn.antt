@@ -21,7 +21,7 @@ use Rattle.records.specs.Held.{keep, ofDesk}
 use Rattle.records.proofs.Parts.{length-parts}
 use Rattle.store.specs.Layout.{headerSize, totalOf}
 use Rattle.store.specs.Sound.{heldBy, deskTest}
-use Rattle.store.specs.Walk.{walked, stepOk, after, seenMark, start, tallyOk, passb}
+use Rattle.store.specs.Walk.{walked, stepOk, marksAfter, seenMark, start, tallyOk, passb}
 use Rattle.store.proofs.Walking.{step-desk}
 
 -- ---- one record, and the others
@@ -47,7 +47,7 @@ module _ (rs : List (List ℕ)) (i : ℕ) where
 
   pub walk-step : (s : List ℕ) (lo : ℕ) (p q : List ℕ) → i < length rs → (r : List ℕ) → r ≡ getD rs i []
       → stepOk s lo (getD p (lenOf (key r)) 0) (getD q (lenOf (key r)) 0) r ≡ true
-      → walked s lo p q (drop i rs) ≡ walked s (key r + 1) (after first r p) (after second r q) (drop (i + 1) rs)
+      → walked s lo p q (drop i rs) ≡ walked s (key r + 1) (marksAfter first r p) (marksAfter second r q) (drop (i + 1) rs)
   unfolding walked
   walk-step s lo p q h r e good = ap (walked s lo p q) (cons-at rs i [] h ∙ ap (λ (x : List ℕ). x ∷ drop (i + 1) rs) (sym e)) ∙ rw good
 

@@ -20,7 +20,7 @@ use Rattle.records.proofs.Finding.{held-none, lookup-absent, lookup-head}
 use Rattle.records.proofs.Counting.{total-blank}
 use Rattle.store.specs.Layout.{totalOf}
 use Rattle.store.specs.Sound.{parentKey, parentOk}
-use Rattle.store.specs.Walk.{upMark, seenMark, markOk, after, start}
+use Rattle.store.specs.Walk.{upMark, seenMark, markOk, marksAfter, start}
 use Rattle.store.proofs.Parents.{Above, above, apart, root-mark}
 
 -- the records from lo up are those of `rest`
@@ -111,10 +111,10 @@ module _ (rs : List (List ℕ)) (i : Sample) (lo : ℕ) (p : List ℕ) (r : List
           rw (mark-test some)
 
   -- the marks after the record
-  placed : getD (after i r p) (lenOf (key r) + 1) 0 ≡ seenMark (key r) (totalOf i r)
+  placed : getD (marksAfter i r p) (lenOf (key r) + 1) 0 ≡ seenMark (key r) (totalOf i r)
   placed = getD-set-same p (lenOf (key r) + 1) (seenMark (key r) (totalOf i r)) 0 (omega (arith, kept .long))
 
-  counted-next : (l k : ℕ) → getD (after i r p) (l + 1) 0 ≡ k + 1 → 0 < totalOf i (lookup k rs)
+  counted-next : (l k : ℕ) → getD (marksAfter i r p) (l + 1) 0 ≡ k + 1 → 0 < totalOf i (lookup k rs)
   unfolding seenMark
   counted-next l k e = go (eqb l (lenOf (key r))) refl
     where
@@ -127,16 +127,16 @@ module _ (rs : List (List ℕ)) (i : Sample) (lo : ℕ) (p : List ℕ) (r : List
       go : (t : Bool) → eqb l (lenOf (key r)) ≡ t → 0 < totalOf i (lookup k rs)
       go true g =
           let same : l ≡ lenOf (key r) = eqb-true l (lenOf (key r)) g in
-          mine (ltb 0 (totalOf i r)) refl (sym placed ∙ ap (λ (l : ℕ). getD (after i r p) (l + 1) 0) (sym same) ∙ e)
+          mine (ltb 0 (totalOf i r)) refl (sym placed ∙ ap (λ (l : ℕ). getD (marksAfter i r p) (l + 1) 0) (sym same) ∙ e)
       go false g =
           let other = eqb-false l (lenOf (key r)) g in
           kept .counted l k (sym (getD-set-other p (lenOf (key r) + 1) (l + 1) (seenMark (key r) (totalOf i r)) 0 (λ q. other (omega arith))) ∙ e)
 
-  last-next : (k : ℕ) → k < key r + 1 → Ends k → key r + 1 + lenOf k ≤ k + weight (lenOf k) → 0 < totalOf i (lookup k rs) → getD (after i r p) (lenOf k + 1) 0 ≡ k + 1
+  last-next : (k : ℕ) → k < key r + 1 → Ends k → key r + 1 + lenOf k ≤ k + weight (lenOf k) → 0 < totalOf i (lookup k rs) → getD (marksAfter i r p) (lenOf k + 1) 0 ≡ k + 1
   unfolding seenMark
   last-next k h e n seen = go (eqb k (key r)) refl (eqb (lenOf k) (lenOf (key r))) refl
     where
-      go : (t : Bool) → eqb k (key r) ≡ t → (u : Bool) → eqb (lenOf k) (lenOf (key r)) ≡ u → getD (after i r p) (lenOf k + 1) 0 ≡ k + 1
+      go : (t : Bool) → eqb k (key r) ≡ t → (u : Bool) → eqb (lenOf k) (lenOf (key r)) ≡ u → getD (marksAfter i r p) (lenOf k + 1) 0 ≡ k + 1
       go true g u v =
           let same : k ≡ key r = eqb-true k (key r) g in
           let some : 0 < totalOf i r = rw (same, itself) at seen in
@@ -155,7 +155,7 @@ module _ (rs : List (List ℕ)) (i : Sample) (lo : ℕ) (p : List ℕ) (r : List
           getD-set-other p (lenOf (key r) + 1) (lenOf k + 1) (seenMark (key r) (totalOf i r)) 0 (λ q. apart-len (omega arith))
           ∙ kept .last k (earlier k less seen) e (omega arith) seen
 
-  pub kept-next : Kept rs i (key r + 1) (after i r p)
+  pub kept-next : Kept rs i (key r + 1) (marksAfter i r p)
   kept-next = record {
     long = length-set p (lenOf (key r) + 1) (seenMark (key r) (totalOf i r)) ∙ kept .long;
     none = getD-set-other p (lenOf (key r) + 1) 0 (seenMark (key r) (totalOf i r)) 0 (λ e. omega arith) ∙ kept .none;

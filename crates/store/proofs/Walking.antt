@@ -19,7 +19,7 @@ use Rattle.records.proofs.Rising.{rises-first, rises-rest}
 use Rattle.records.proofs.Finding.{lookup-tail}
 use Rattle.store.specs.Layout.{isOpen, symbolsAt, depthAt}
 use Rattle.store.specs.Sound.{eachSample, parentOk, tableOk}
-use Rattle.store.specs.Walk.{oldestOk, endsOk, keyFits, ownOk, stepOk, after, walked, start}
+use Rattle.store.specs.Walk.{oldestOk, endsOk, keyFits, ownOk, stepOk, marksAfter, walked, start}
 use Rattle.store.proofs.Marks.{Rest, Kept, kept-start, kept-next, mark-parent}
 
 -- a record's own test, and its parent looked up
@@ -63,12 +63,12 @@ agree : (s : List ℕ) (rs : List (List ℕ)) (lo : ℕ) (p q : List ℕ) (rest 
 unfolding walked all stepOk fitOk
 agree s rs lo p q [] up there kp kq = refl
 agree s rs lo p q (r ∷ rest) up there kp kq = go (ownOk s r) refl
-    (λ ends. agree s rs (key r + 1) (after first r p) (after second r q) rest (rw (add-one (key r)) (rises-rest lo (key r) (keys rest) up))
+    (λ ends. agree s rs (key r + 1) (marksAfter first r p) (marksAfter second r q) rest (rw (add-one (key r)) (rises-rest lo (key r) (keys rest) up))
     (λ j h. there j (omega (arith, rises-first lo (key r) (keys rest) up)) ∙ lookup-tail j r rest (omega arith))
     (kept-next rs first lo p r rest up there kp ends) (kept-next rs second lo q r rest up there kq ends))
   where
     go : (t : Bool) → ownOk s r ≡ t
-        → (Ends (key r) → walked s (key r + 1) (after first r p) (after second r q) rest ≡ all (fitOk s rs) rest)
+        → (Ends (key r) → walked s (key r + 1) (marksAfter first r p) (marksAfter second r q) rest ≡ all (fitOk s rs) rest)
         → walked s lo p q (r ∷ rest) ≡ all (fitOk s rs) (r ∷ rest)
     go false e ih = rw (le-leb lo (key r) (rises-first lo (key r) (keys rest) up), e)
     go true e ih =
@@ -83,7 +83,7 @@ unfolding walked stepOk rises
 walk-rises s lo p q [] t = tt
 walk-rises s lo p q (r ∷ rest) t =
     let here = left (stepOk s lo (getD p (lenOf (key r)) 0) (getD q (lenOf (key r)) 0) r) _ t in
-    let tail = walk-rises s (key r + 1) (after first r p) (after second r q) rest (right (stepOk s lo (getD p (lenOf (key r)) 0) (getD q (lenOf (key r)) 0) r) _ t) in
+    let tail = walk-rises s (key r + 1) (marksAfter first r p) (marksAfter second r q) rest (right (stepOk s lo (getD p (lenOf (key r)) 0) (getD q (lenOf (key r)) 0) r) _ t) in
     both (leb lo (key r)) (rises (suc (key r)) (keys rest)) (left (leb lo (key r)) _ here) (rw (add-one (key r)) at tail)
 
 -- THEOREM. The walk is the order of the records and each record's test with its parent looked up

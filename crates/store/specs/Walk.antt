@@ -67,14 +67,14 @@ stepOk s lo p q r =
     leb lo (key r) && (ownOk s r && (markOk (totalOf first r) p (upMark (key r)) && markOk (totalOf second r) q (upMark (key r))))
 
 -- a sample's marks after a record: place l + 1 has the last record of length l
-abbrev pub after : Sample → List ℕ → List ℕ → List ℕ
-after i r p = set p (lenOf (key r) + 1) (seenMark (key r) (totalOf i r))
+abbrev pub marksAfter : Sample → List ℕ → List ℕ → List ℕ
+marksAfter i r p = set p (lenOf (key r) + 1) (seenMark (key r) (totalOf i r))
 
 unfoldable pub walked : List ℕ → ℕ → List ℕ → List ℕ → List (List ℕ) → Bool
 walked s lo p q [] = true
 walked s lo p q (r ∷ rs) =
     stepOk s lo (getD p (lenOf (key r)) 0) (getD q (lenOf (key r)) 0) r
-    && walked s (key r + 1) (after first r p) (after second r q) rs
+    && walked s (key r + 1) (marksAfter first r p) (marksAfter second r q) rs
 
 -- no marks
 abbrev pub start : List ℕ

@@ -13,7 +13,7 @@ use Rattle.estimate.proofs.Tables.{at}
 use Rattle.estimate.proofs.Unseen.{Flat}
 use Rattle.weighing.specs.declared.Weighed.{Weighed}
 use Rattle.weighing.specs.Trees.{leastAt, membersAt, markAt}
-use Rattle.weighing.specs.Visit.{LeafOf, SplitOf, SumOf, Fits, leafMark, splitMark}
+use Rattle.weighing.specs.Visit.{LeafOf, SplitOf, SumOf, SumFits, leafMark, splitMark}
 use Rattle.weighing.proofs.Standing.{least-leaf, joint-leaf, members-leaf, members-joint-leaf, mark-leaf, lessBelow, membersBelow, least-split, joint-split, members-split, members-joint-split, mark-split}
 use Rattle.weighing.proofs.Flat.{least-flat, members-flat}
 
@@ -23,7 +23,7 @@ sum-of x y r g shared = g .shared
 sum-of x y r g (own first) = g .first
 sum-of x y r g (own second) = g .second
 
-pub fits-by : (x y : ByKind) → ((t : Kind) → at x t + at y t < 2 ^ 64) → Fits x y
+pub fits-by : (x y : ByKind) → ((t : Kind) → at x t + at y t < 2 ^ 64) → SumFits x y
 fits-by x y h = record { shared = h shared; first = h (own first); second = h (own second) }
 
 module _ (A : ℕ) (f : Losses) (s : List ℕ) (o : ByKind) (is : (t : Kind) → at o t ≡ f t s) where

@@ -25,7 +25,7 @@ use Rattle.contexts.proofs.Tables.{eight-at, sum-eight}
 use Rattle.estimate.proofs.Tables.{kind-none, at, table-losses}
 use Rattle.estimate.proofs.Unseen.{Flat, unseen-losses, unseen-flat}
 use Rattle.records.specs.Records.{width, records, countsOf, lookup}
-use Rattle.records.specs.Held.{held, recordAt, tableOf}
+use Rattle.records.specs.Held.{held, recordAt, countTable}
 use Rattle.records.proofs.Parts.{part-at, wide-records}
 use Rattle.records.proofs.Finding.{lookup-found}
 use Rattle.records.proofs.Counting.{length-counts, count-absent, wide-lookup}
@@ -59,12 +59,12 @@ module _ (k : Desk) (n : ℕ) (l : List ℕ) (w : Weighable k n l) where
         (length-counts i (lookup (keyOf (k .number) s) (records n l)) (wide-lookup (keyOf (k .number) s) (records n l) (wide-records n l (w .standing .fits))))
         (λ a. rw (is-true (isContext (k .symbols) (k .depth) s) c))
 
-    pub table-under : tableOf (lookup (keyOf (k .number) s) (records n l)) ≡ table sitting s
+    pub table-under : countTable (lookup (keyOf (k .number) s) (records n l)) ≡ table sitting s
     table-under = ap₂ {C = List (List ℕ)} (λ a b. a ∷ b ∷ []) (sym (counts-are first)) (sym (counts-are second))
 
     -- .. that is, of the record at its place p
-    pub table-here : (p : ℕ) → p < n → getD l (width * p) 0 ≡ keyOf (k .number) s → tableOf (recordAt p l) ≡ table sitting s
-    table-here p here is = ap tableOf (sym (lookup-found (keyOf (k .number) s) n p l (w .standing .rising) here is ∙ part-at width n p l here)) ∙ table-under
+    pub table-here : (p : ℕ) → p < n → getD l (width * p) 0 ≡ keyOf (k .number) s → countTable (recordAt p l) ≡ table sitting s
+    table-here p here is = ap countTable (sym (lookup-found (keyOf (k .number) s) n p l (w .standing .rising) here is ∙ part-at width n p l here)) ∙ table-under
 
   -- ---- its losses
 

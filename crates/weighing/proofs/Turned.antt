@@ -14,13 +14,13 @@ use Rattle.estimate.specs.declared.ByKind.{ByKind}
 use Rattle.estimate.proofs.Tables.{at}
 use Rattle.rows.specs.Walk.{older}
 use Rattle.records.specs.Records.{width, records, keys}
-use Rattle.records.specs.Held.{rank, recordAt, tableOf}
+use Rattle.records.specs.Held.{rank, recordAt, countTable}
 use Rattle.weighing.specs.declared.Desk.{Desk}
 use Rattle.weighing.specs.declared.Context.{Context}
 use Rattle.weighing.specs.declared.Weighed.{Weighed}
 use Rattle.weighing.specs.Sitting.{sittingIn}
 use Rattle.weighing.specs.Trees.{leastAt, membersAt, markOf}
-use Rattle.weighing.specs.Visit.{endOf, Ready, CanVisit, Visited, NoneOf, SplitHere, splitMark}
+use Rattle.weighing.specs.Visit.{endOf, Arrived, CanVisit, Visited, NoneOf, SplitHere, splitMark}
 use Rattle.weighing.proofs.Cursor.{turnKey, turns-past}
 use Rattle.weighing.proofs.Flat.{members-few}
 use Rattle.weighing.proofs.Choosing as choosing
@@ -37,7 +37,7 @@ module _ {k : Desk} {costs : ByKind} {n : ℕ} {l old : List ℕ} {c : Context} 
   abbrev s : List ℕ
   s = contextOf (c .key)
 
-  abbrev q : Ready k costs n l s c p
+  abbrev q : Arrived k costs n l s c p
   q = v .ready
 
   pub turns-begin : {children : Weighed} → NoneOf (p + 1) children → Turn k n l s (c .left - 1) p (c .span / 8) 0 (c .key + 1) old old children
@@ -80,7 +80,7 @@ module _ {k : Desk} {costs : ByKind} {n : ℕ} {l old : List ℕ} {c : Context} 
     last zero e = absurd (omega (arith, all, q .weighable .some))
     last (suc b) e = turns-past k n l (q .weighable) s (q .context) (steps.after s) (steps.room q more) (steps.deeper q more) b (omega (arith, all))
 
-    pub turns-end : {o : ByKind} → LossesOf (tableOf (recordAt p l)) costs o → {new : List ℕ} {r : Weighed} → SplitHere o p children cur new r → Visited k n l s (c .left) p old new r
+    pub turns-end : {o : ByKind} → LossesOf (countTable (recordAt p l)) costs o → {new : List ℕ} {r : Weighed} → SplitHere o p children cur new r → Visited k n l s (c .left) p old new r
     turns-end {o} lost {new} {r} w = subst₂ (λ (d : ℕ) (after : List ℕ). Visited k n l s d p old after r) back (sym (w .mark)) (record {
       least = choosing.split-least (k .symbols) f s o is (c .left - 1) children less some r (w .is);
       rows = choosing.split-members (k .symbols) f s o is (c .left - 1) children less some r (w .is);

@@ -24,7 +24,7 @@ use Rattle.weighing.specs.declared.Context.{Context}
 use Rattle.weighing.specs.declared.Weighed.{Weighed}
 use Rattle.weighing.specs.Sitting.{sittingIn}
 use Rattle.weighing.specs.Trees.{leastAt, membersAt}
-use Rattle.weighing.specs.Visit.{endOf, Ready, CanVisit, Marked, Apart, Visited, mostLoss, LeafOf, Fits, CanAdd, ChildOf, CanAddUnseen}
+use Rattle.weighing.specs.Visit.{endOf, Arrived, CanVisit, Marked, Apart, Visited, mostLoss, LeafOf, SumFits, CanAdd, ChildOf, CanAddUnseen}
 use Rattle.weighing.proofs.Cursor.{turnKey, within, turn-at}
 use Rattle.records.proofs.Rising.{rank-mono}
 use Rattle.weighing.proofs.Blocks.{begins-self, block-key, key-older}
@@ -59,7 +59,7 @@ module _ {k : Desk} {costs : ByKind} {n : ℕ} {l old : List ℕ} {c : Context} 
   abbrev s : List ℕ
   s = contextOf (c .key)
 
-  abbrev q : Ready k costs n l s c p
+  abbrev q : Arrived k costs n l s c p
   q = v .ready
 
   module _ {cur : List ℕ} {a child : ℕ} {children : Weighed} (t : Turn k n l s (c .left - 1) p (c .span / 8) a child old cur children) (lt : a < k .symbols) where
@@ -69,7 +69,7 @@ module _ {k : Desk} {costs : ByKind} {n : ℕ} {l old : List ℕ} {c : Context} 
     child-key : child ≡ keyOf (k .number) (older s a)
     child-key = t .child-is ∙ rw (steps.step-is q more) (sym (key-older (k .number) (steps.after s) s (steps.room q more) a))
 
-    child-ready : Ready k costs n l (older s a) below (children .next)
+    child-ready : Arrived k costs n l (older s a) below (children .next)
     child-ready = record {
       weighable = q .weighable;
       priced = q .priced;
@@ -91,7 +91,7 @@ module _ {k : Desk} {costs : ByKind} {n : ℕ} {l old : List ℕ} {c : Context} 
 
     -- a child that is held can be visited ..
     pub can-visit : held child (records n l) ≡ true → CanVisit k costs n l cur below (children .next)
-    can-visit on = record { ready = subst (λ (u : List ℕ). Ready k costs n l u below (children .next)) (sym child-is) child-ready; on = on; beside = omega (arith, v .beside, t .long) }
+    can-visit on = record { ready = subst (λ (u : List ℕ). Arrived k costs n l u below (children .next)) (sym child-is) child-ready; on = on; beside = omega (arith, v .beside, t .long) }
 
     -- .. and for one that is not a leaf stands
     pub unseen : held child (records n l) ≡ false → {w : Weighed} → LeafOf costs (children .next) w → Visited k n l (contextOf child) (c .left - 1) (children .next) cur cur w
@@ -102,7 +102,7 @@ module _ {k : Desk} {costs : ByKind} {n : ℕ} {l old : List ℕ} {c : Context} 
       g : Visited k n l (older s a) (c .left - 1) (children .next) cur new w
       g = subst (λ (u : List ℕ). Visited k n l u (c .left - 1) (children .next) cur new w) child-is gave
 
-      least-fits : Fits (children .least) (w .least)
+      least-fits : SumFits (children .least) (w .least)
       least-fits = fits-by (children .least) (w .least) (λ i.
           let h = turn-small a mostLoss (at (children .least) i) (at (w .least) i) (omega (arith, q .weighable .few)) (t .least i) (small i) (rw (g .least i) (small i a)) in
           omega arith)
@@ -110,7 +110,7 @@ module _ {k : Desk} {costs : ByKind} {n : ℕ} {l old : List ℕ} {c : Context} 
           small : (i : Kind) (b : ℕ) → leastAt (k .symbols) (c .left - 1) f i (older s b) ≤ mostLoss
           small i b = omega (arith, least-le (k .symbols) (c .left - 1) f i (older s b), losses-most k n l (q .weighable) costs (q .priced) (older s b) i)
 
-      rows-fits : Fits (children .rows) (w .rows)
+      rows-fits : SumFits (children .rows) (w .rows)
       rows-fits = fits-by (children .rows) (w .rows) (λ i.
           let h = turn-small a (2 * 8 ^ (c .left - 1)) (at (children .rows) i) (at (w .rows) i) (omega (arith, q .weighable .few)) (t .rows i) (few i) (rw (g .rows i) (few i a)) in
           omega (arith, pow-le (c .left - 1) 6 (omega (arith, q .left-is, q .weighable .shallow))))

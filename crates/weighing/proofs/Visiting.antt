@@ -19,7 +19,7 @@ use Rattle.estimate.specs.declared.ByKind.{ByKind}
 use Rattle.estimate.proofs.Tables.{at}
 use Rattle.estimate.proofs.Unseen.{Flat}
 use Rattle.records.specs.Records.{width, records, keys}
-use Rattle.records.specs.Held.{rank, held, recordAt, tableOf, Rising, Standing, Placed}
+use Rattle.records.specs.Held.{rank, held, recordAt, countTable, Rising, Standing, Placed}
 use Rattle.records.proofs.Rising.{rank-within}
 use Rattle.records.proofs.Finding.{held-lost}
 use Rattle.weighing.specs.declared.Desk.{Desk}
@@ -27,7 +27,7 @@ use Rattle.weighing.specs.declared.Context.{Context}
 use Rattle.weighing.specs.declared.Weighed.{Weighed}
 use Rattle.weighing.specs.Sitting.{sittingIn}
 use Rattle.weighing.specs.Trees.{markAt, markOf}
-use Rattle.weighing.specs.Visit.{Ready, CanVisit, Visited, Countable, Small, LeafOf, LeafHere, leafMark}
+use Rattle.weighing.specs.Visit.{Arrived, CanVisit, Visited, Countable, Small, LeafOf, LeafHere, leafMark}
 use Rattle.weighing.proofs.Cursor.{rank-own, within, past-absent, past-deepest}
 use Rattle.weighing.proofs.Counts.{table-here, table-small, costs-small, losses-here, small-here, absent-flat, absent-losses}
 use Rattle.weighing.proofs.Choosing as choosing
@@ -49,7 +49,7 @@ held-there key n p l up at h = go (order p n)
     go (same e) = absurd (lost (λ lt _. omega arith))
     go (more e) = absurd (lost (λ lt _. omega arith))
 
-module _ {k : Desk} {costs : ByKind} {n : ℕ} {l s : List ℕ} {c : Context} {p : ℕ} (q : Ready k costs n l s c p) where
+module _ {k : Desk} {costs : ByKind} {n : ℕ} {l s : List ℕ} {c : Context} {p : ℕ} (q : Arrived k costs n l s c p) where
   abbrev f : Losses
   f = losses (sittingIn k (records n l))
 
@@ -94,7 +94,7 @@ module _ {k : Desk} {costs : ByKind} {n : ℕ} {l old : List ℕ} {c : Context} 
   abbrev s : List ℕ
   s = contextOf (c .key)
 
-  abbrev q : Ready k costs n l s c p
+  abbrev q : Arrived k costs n l s c p
   q = v .ready
 
   on : T (held (keyOf (k .number) s) (records n l))
@@ -103,7 +103,7 @@ module _ {k : Desk} {costs : ByKind} {n : ℕ} {l old : List ℕ} {c : Context} 
   pub there : (p < n) × (getD l (width * p) 0 ≡ keyOf (k .number) s)
   there = held-there (keyOf (k .number) s) n p l (q .weighable .standing .rising) (q .place) on
 
-  table-is : tableOf (recordAt p l) ≡ table (sittingIn k (records n l)) s
+  table-is : countTable (recordAt p l) ≡ table (sittingIn k (records n l)) s
   table-is = table-here k n l (q .weighable) s (q .context) p (there .0) (there .1)
 
   pub countable : Countable l p costs
@@ -117,10 +117,10 @@ module _ {k : Desk} {costs : ByKind} {n : ℕ} {l old : List ℕ} {c : Context} 
         second-cost = small (own second);
       }
 
-  pub own-losses : {o : ByKind} → LossesOf (tableOf (recordAt p l)) costs o → (t : Kind) → at o t ≡ f q t s
+  pub own-losses : {o : ByKind} → LossesOf (countTable (recordAt p l)) costs o → (t : Kind) → at o t ≡ f q t s
   own-losses {o} g = losses-here k n l (q .weighable) costs (q .priced) s o (subst (λ (z : List (List ℕ)). LossesOf z costs o) table-is g)
 
-  pub own-small : {o : ByKind} → LossesOf (tableOf (recordAt p l)) costs o → Small o
+  pub own-small : {o : ByKind} → LossesOf (countTable (recordAt p l)) costs o → Small o
   own-small {o} g = small-here k n l (q .weighable) costs (q .priced) s o (own-losses g)
 
   pub kept-there : p < length old
@@ -133,7 +133,7 @@ module _ {k : Desk} {costs : ByKind} {n : ℕ} {l old : List ℕ} {c : Context} 
   mark-there d m h e = e ∙ sym (mark-here q d h) ∙ ap (markOf (k .symbols) (k .depth) (f q)) (sym (there .1))
 
   -- with no symbol left
-  pub answer-leaf : {o : ByKind} → LossesOf (tableOf (recordAt p l)) costs o → c .left ≡ 0 → {new : List ℕ} {r : Weighed} → LeafHere o p old new r → Visited k n l s (c .left) p old new r
+  pub answer-leaf : {o : ByKind} → LossesOf (countTable (recordAt p l)) costs o → c .left ≡ 0 → {new : List ℕ} {r : Weighed} → LeafHere o p old new r → Visited k n l s (c .left) p old new r
   answer-leaf {o} lost z {new} {r} w = subst₂ (λ (d : ℕ) (after : List ℕ). Visited k n l s d p old after r) (sym z) (sym (w .mark)) (record {
     least = choosing.leaf-least (k .symbols) (f q) s o is (p + 1) r (w .is);
     rows = choosing.leaf-members (k .symbols) (f q) s o is (p + 1) r (w .is);

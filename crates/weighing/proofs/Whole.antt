@@ -23,7 +23,7 @@ use Rattle.weighing.specs.declared.Desk.{Desk}
 use Rattle.weighing.specs.declared.Weighed.{Weighed}
 use Rattle.weighing.specs.Sitting.{sittingIn, Weighable}
 use Rattle.weighing.specs.Trees.{leastAt, membersAt}
-use Rattle.weighing.specs.Visit.{endOf, Ready, Visited}
+use Rattle.weighing.specs.Visit.{endOf, Arrived, Visited}
 use Rattle.weighing.specs.Weighs.{Decided, Weighs}
 
 pub root-key : (k : Desk) → k .number * deskSpan ≡ keyOf (k .number) []
@@ -35,9 +35,9 @@ root-is k = ap contextOf (root-key k) ∙ contextOf-key (k .number) [] tt
 
 module _ {k : Desk} {n : ℕ} {l : List ℕ} (w : Weighable k n l) {p : ℕ} (at : p ≡ rank (k .number * deskSpan) (keys (records n l))) where
   -- the walk begins at the empty context ..
-  pub root-ready : {costs : ByKind} → CostsOf (k .symbols) (k .n) (k .m) costs → Ready k costs n l (contextOf (k .number * deskSpan)) (record { key = k .number * deskSpan; span = deskSpan; left = k .depth }) p
+  pub root-ready : {costs : ByKind} → CostsOf (k .symbols) (k .n) (k .m) costs → Arrived k costs n l (contextOf (k .number * deskSpan)) (record { key = k .number * deskSpan; span = deskSpan; left = k .depth }) p
   unfolding isContext
-  root-ready {costs} priced = subst (λ (s : List ℕ). Ready k costs n l s (record { key = k .number * deskSpan; span = deskSpan; left = k .depth }) p) (sym (root-is k)) (record {
+  root-ready {costs} priced = subst (λ (s : List ℕ). Arrived k costs n l s (record { key = k .number * deskSpan; span = deskSpan; left = k .depth }) p) (sym (root-is k)) (record {
     weighable = w;
     priced = priced;
     context = tt;

@@ -16,7 +16,7 @@ use Rattle.estimate.specs.Table.{CostsOf}
 use Rattle.estimate.specs.declared.ByKind.{ByKind}
 use Rattle.estimate.proofs.Tables.{at}
 use Rattle.records.specs.Records.{width, records, keys}
-use Rattle.records.specs.Held.{rank, held, recordAt, tableOf}
+use Rattle.records.specs.Held.{rank, held, recordAt, countTable}
 use Rattle.weighing.specs.declared.Desk.{Desk}
 use Rattle.weighing.specs.declared.Context.{Context}
 use Rattle.weighing.specs.declared.Weighed.{Weighed}
@@ -36,13 +36,13 @@ endOf d s = d * deskSpan + (digits deepest s * 8 + spanOf s)
 -- the counts of the record at a place can be weighed
 pub record Countable (l : List ℕ) (p : ℕ) (costs : ByKind) : Type 0 where
   pub fits : width * (p + 1) ≤ length l
-  pub counted : sumOf (rowIn (tableOf (recordAt p l)) first) + sumOf (rowIn (tableOf (recordAt p l)) second) ≤ mostCounted
+  pub counted : sumOf (rowIn (countTable (recordAt p l)) first) + sumOf (rowIn (countTable (recordAt p l)) second) ≤ mostCounted
   pub shared-cost : costs .shared ≤ mostSymbols * topLog
   pub first-cost : costs .first ≤ mostSymbols * topLog
   pub second-cost : costs .second ≤ mostSymbols * topLog
 
 -- the walk has come to the context s of a desk
-pub record Ready (k : Desk) (costs : ByKind) (n : ℕ) (l : List ℕ) (s : List ℕ) (c : Context) (p : ℕ) : Type 0 where
+pub record Arrived (k : Desk) (costs : ByKind) (n : ℕ) (l : List ℕ) (s : List ℕ) (c : Context) (p : ℕ) : Type 0 where
   pub weighable : Weighable k n l
   pub priced : CostsOf (k .symbols) (k .n) (k .m) costs
   pub context : T (isContext (k .symbols) (k .depth) s)
@@ -53,7 +53,7 @@ pub record Ready (k : Desk) (costs : ByKind) (n : ℕ) (l : List ℕ) (s : List 
 
 -- what a visit to a context asks: the walk has come to it, it is held, and a number stands beside each record
 pub record CanVisit (k : Desk) (costs : ByKind) (n : ℕ) (l kept : List ℕ) (c : Context) (p : ℕ) : Type 0 where
-  pub ready : Ready k costs n l (contextOf (c .key)) c p
+  pub ready : Arrived k costs n l (contextOf (c .key)) c p
   pub on : held (c .key) (records n l) ≡ true
   pub beside : n ≤ length kept
 
@@ -136,7 +136,7 @@ pub record SumOf (x y r : ByKind) : Type 0 where
   pub second : r .second ≡ x .second + y .second
 
 -- .. which are numbers of 64 bits
-pub record Fits (x y : ByKind) : Type 0 where
+pub record SumFits (x y : ByKind) : Type 0 where
   pub shared : x .shared + y .shared < 2 ^ 64
   pub first : x .first + y .first < 2 ^ 64
   pub second : x .second + y .second < 2 ^ 64
@@ -149,8 +149,8 @@ pub record NoneOf (next : ℕ) (r : Weighed) : Type 0 where
 
 -- a child more can be added
 pub record CanAdd (children w : Weighed) : Type 0 where
-  pub least : Fits (children .least) (w .least)
-  pub rows : Fits (children .rows) (w .rows)
+  pub least : SumFits (children .least) (w .least)
+  pub rows : SumFits (children .rows) (w .rows)
 
 -- one child more: the sums, and where the walk goes on after it
 pub record ChildOf (children w r : Weighed) : Type 0 where

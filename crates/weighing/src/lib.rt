@@ -10,10 +10,10 @@ ghost use Rattle.contexts.specs.Keys.{contextOf};
 ghost use Rattle.records.specs.Records.{records};
 ghost use Rattle.logarithm.specs.Table.{AreLogs};
 ghost use Rattle.estimate.specs.Table.{LossesOf};
-ghost use Rattle.records.specs.Held.{held, recordAt, tableOf};
+ghost use Rattle.records.specs.Held.{held, recordAt, countTable};
 ghost use Rattle.weighing.specs.Trees.{choice};
 ghost use Rattle.weighing.specs.Weighs.{CanWeigh, Weighs};
-ghost use Rattle.weighing.specs.Visit.{Countable, CanVisit, Visited, Small, LeafOf, LeafHere, SplitOf, SplitHere, SumOf, Fits, NoneOf, CanAdd, ChildOf, CanAddUnseen, UnseenOf, leafMark, splitMark};
+ghost use Rattle.weighing.specs.Visit.{Countable, CanVisit, Visited, Small, LeafOf, LeafHere, SplitOf, SplitHere, SumOf, SumFits, NoneOf, CanAdd, ChildOf, CanAddUnseen, UnseenOf, leafMark, splitMark};
 use estimate::ByKind;
 use records::DESK_SPAN;
 use records::stands;
@@ -138,7 +138,7 @@ fn split_here(kept: &mut [u8], at: usize, own: ByKind, children: Weighed) -> Wei
 // The losses of the context of the record at a place.
 fn losses_at(logs: &[u32], numbers: &[u32], at: usize, costs: ByKind) -> ByKind
     requires { ⌜ AreLogs (now logs) × Countable (now numbers) at costs ⌝ }
-    ensures { λ r. ⌜ LossesOf (tableOf (recordAt at (now (numbers .entry)))) costs r ⌝ }
+    ensures { λ r. ⌜ LossesOf (countTable (recordAt at (now (numbers .entry)))) costs r ⌝ }
 {
     estimate::losses_of(logs, records::counts_at(numbers, at), costs)
 }
@@ -234,7 +234,7 @@ fn and_unseen(children: Weighed, costs: ByKind) -> Weighed
 }
 
 fn plus(x: ByKind, y: ByKind) -> ByKind
-    requires { ⌜ Fits x y ⌝ }
+    requires { ⌜ SumFits x y ⌝ }
     ensures { λ r. ⌜ SumOf x y r ⌝ }
 {
     ByKind {

@@ -5,7 +5,7 @@ use Prim.Native.Nat.{ℕ}
 use native.Mathlib.Omega.{arith}
 use borrow.Author.Needs.{needs}
 use Rattle.records.specs.Records.{lookup}
-use Rattle.records.specs.Held.{tableOf}
+use Rattle.records.specs.Held.{countTable}
 use Rattle.records.proofs.Lent.{tail-lent}
 use Rattle.chart.specs.Answer.{chartIn}
 use Rattle.store.specs.Layout.{headerSize, recordsIn}
@@ -31,7 +31,7 @@ table-of-requires : tie.Need-table-of-requires
 table-of-requires c κs = let start = c .before .before .before in rw (tail-lent headerSize (start .args .store .now)) (start .pre .standing)
 
 -- the part that was lent is the store's from the header on
-counts-are : (c : tie.After-table-of) → c .table-of .result ≡ tableOf (lookup (c .before .before .before .before .args .key) (recordsIn (c .before .before .before .before .args .store .now)))
+counts-are : (c : tie.After-table-of) → c .table-of .result ≡ countTable (lookup (c .before .before .before .before .args .key) (recordsIn (c .before .before .before .before .args .store .now)))
 unfolding recordsIn
 counts-are c = rw (tail-lent headerSize (c .before .before .before .before .args .store .now)) at (c .table-of .ensures)
 

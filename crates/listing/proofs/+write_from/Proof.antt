@@ -8,7 +8,7 @@ use borrow.Author.Tests.{not-true, not-false}
 use lib.ListN.{length}
 use Rattle.contexts.specs.Keys.{contextOf}
 use Rattle.listing.specs.Plans.{goesOn}
-use Rattle.listing.specs.Writing.{CanWrite, Written, rowsFrom}
+use Rattle.listing.specs.Writing.{CanWrite, WroteAt, rowsFrom}
 use Rattle.listing.proofs.Reporting as reporting
 use Rattle.listing.proofs.Onward as onward
 use borrow.Fn.Kinds.{In}
@@ -105,7 +105,7 @@ write-from-loop-again t c = let s = c .before .before .before .before .before .b
     let g = c .before .before .before .write-from in (
       g .kept .1 .1 .1 .1 .1 .0 ∙ m .inv .0,
       onward.onward-next (x .desk) (x .costs) (x .n) (x .numbers .now) (x .kept .now) (length (x .sheet .now)) (contextOf (x .spot .key)) (x .spot) (x .to) (s .pre .1) (write-from-more t (c .before .before .before .before .before .before .before .before .before .before .before .before)) (h .result .way) (h .result .to) (m .a) (m .key) (m .code) (h .last .1 .1 .1 .1 .0) (m .sheet) (m .past) (m .inv .1) lt (h .kept .1 .1 .1 .1 .0) (reporting.child-room (x .desk) (x .costs) (x .n) (x .numbers .now) (x .kept .now) (length (x .sheet .now)) (contextOf (x .spot .key)) (x .spot) (x .to) (s .pre .1) (x .sheet .now) (h .last .1 .1 .1 .1 .0) (h .result) (h .ensures) (write-from-on t (c .before .before .before .before .before .before .before .before .before .before .before .before))) (g .last .1 .1 .1 .1 .1 .0) (g .result)
-          (subst (λ (u : List ℕ). Written (m .sheet) (g .last .1 .1 .1 .1 .1 .0) (m .past) (rowsFrom (x .desk) (x .n) (x .numbers .now) u (record { key = m .key; span = x .spot .span / 8; left = x .spot .left - 1; code = m .code; power = 8 * x .spot .power; way = h .result .way })) (g .result)) (onward.onward-is (x .desk) (x .costs) (x .n) (x .numbers .now) (x .kept .now) (length (x .sheet .now)) (contextOf (x .spot .key)) (x .spot) (x .to) (s .pre .1) (write-from-more t (c .before .before .before .before .before .before .before .before .before .before .before .before)) (h .result .way) (h .result .to) (m .a) (m .key) (m .code) (h .last .1 .1 .1 .1 .0) (m .sheet) (m .past) (m .inv .1) lt) (g .ensures)),
+          (subst (λ (u : List ℕ). WroteAt (m .sheet) (g .last .1 .1 .1 .1 .1 .0) (m .past) (rowsFrom (x .desk) (x .n) (x .numbers .now) u (record { key = m .key; span = x .spot .span / 8; left = x .spot .left - 1; code = m .code; power = 8 * x .spot .power; way = h .result .way })) (g .result)) (onward.onward-is (x .desk) (x .costs) (x .n) (x .numbers .now) (x .kept .now) (length (x .sheet .now)) (contextOf (x .spot .key)) (x .spot) (x .to) (s .pre .1) (write-from-more t (c .before .before .before .before .before .before .before .before .before .before .before .before)) (h .result .way) (h .result .to) (m .a) (m .key) (m .code) (h .last .1 .1 .1 .1 .0) (m .sheet) (m .past) (m .inv .1) lt) (g .ensures)),
     )
 
 write-from-same-length-2 : (t : ℕ) → write-from-lts.Need-same-length-2 (write-from-calls t) (write-from-at t) write-from.Post write-from-Inv-loop write-from-μ-loop

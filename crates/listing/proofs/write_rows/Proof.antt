@@ -4,7 +4,7 @@ use mathlib.Core.List.{List}
 use Prim.Native.Nat.{ℕ}
 use borrow.Author.Needs.{needs}
 use lib.ListN.{length}
-use Rattle.listing.specs.Writing.{Written, rowsFrom, CanWrite}
+use Rattle.listing.specs.Writing.{WroteAt, rowsFrom, CanWrite}
 use Rattle.weighing.proofs.Whole.{root-is}
 use Rattle.listing.proofs.WholeSheet as whole
 use Rattle.listing.proofs.write_rows.Statement.{statement}
@@ -39,7 +39,7 @@ returns c =
     let g = v .write-from in
     whole.reported (x .desk) (x .n) (x .numbers .now) w (x .sheet .now) (g .last .1 .1 .1 .1 .1 .0) (g .result)
     (subst
-    (λ (u : List ℕ). Written (x .sheet .now) (g .last .1 .1 .1 .1 .1 .0) 0 (rowsFrom (x .desk) (x .n) (x .numbers .now) u (whole.rootSpot (x .desk) (x .n) (x .numbers .now) w)) (g .result))
+    (λ (u : List ℕ). WroteAt (x .sheet .now) (g .last .1 .1 .1 .1 .1 .0) 0 (rowsFrom (x .desk) (x .n) (x .numbers .now) u (whole.rootSpot (x .desk) (x .n) (x .numbers .now) w)) (g .result))
     (root-is (x .desk))
     (g .ensures))
 

@@ -3,7 +3,7 @@ use mathlib.Core.Path.{sym, ap, _∙_}
 use native.Mathlib.Omega.{arith}
 use borrow.Author.Needs.{needs}
 use Rattle.records.specs.Records.{width, records}
-use Rattle.records.specs.Held.{tableOf}
+use Rattle.records.specs.Held.{countTable}
 use Rattle.records.proofs.Parts.{part-at}
 use Rattle.records.proofs.Finding.{lookup-found, lookup-absent, held-lost}
 use Rattle.records.proofs.table_of.Statement.{statement}
@@ -31,7 +31,7 @@ returns c =
     let place = c .before .before .before .before .place-of in
     let inside = c .before .before .before .if1 .taken in
     let found = lookup-found (x .key) (x .n) (place .result) (x .numbers .now) (start .pre .rising) inside (c .before .if2 .taken) in
-    c .counts-at .ensures ∙ ap tableOf (sym (found ∙ part-at width (x .n) (place .result) (x .numbers .now) inside))
+    c .counts-at .ensures ∙ ap countTable (sym (found ∙ part-at width (x .n) (place .result) (x .numbers .now) inside))
 
 returns-2 : tie.Need-returns-2
 returns-2 c =
@@ -39,7 +39,7 @@ returns-2 c =
     let x = start .args in
     let place = c .before .before .before .place-of in
     let lost = held-lost (x .key) (x .n) (place .result) (x .numbers .now) (start .pre .rising) (place .ensures .at) (λ h. c .if2 .left) in
-    ap tableOf (sym (lookup-absent (x .key) (records (x .n) (x .numbers .now)) lost))
+    ap countTable (sym (lookup-absent (x .key) (records (x .n) (x .numbers .now)) lost))
 
 returns-3 : tie.Need-returns-3
 returns-3 c =
@@ -47,7 +47,7 @@ returns-3 c =
     let x = start .args in
     let place = c .before .place-of in
     let lost = held-lost (x .key) (x .n) (place .result) (x .numbers .now) (start .pre .rising) (place .ensures .at) (λ h e. omega arith) in
-    ap tableOf (sym (lookup-absent (x .key) (records (x .n) (x .numbers .now)) lost))
+    ap countTable (sym (lookup-absent (x .key) (records (x .n) (x .numbers .now)) lost))
 
 pub table-of-spec : {M : Type 1} → statement M
 table-of-spec =

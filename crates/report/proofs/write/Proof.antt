@@ -8,7 +8,7 @@ use lib.ListN.{length, take, drop}
 use Rattle.numbers.specs.Limits.{rowWidth}
 use Rattle.records.proofs.Lent.{tail-lent}
 use Rattle.store.specs.Layout.{headerSize, used}
-use Rattle.listing.specs.Writing.{Reports}
+use Rattle.listing.specs.Writing.{Listed}
 use Rattle.report.proofs.Standing.{sized}
 use Rattle.report.proofs.Writing.{can-write, has-written}
 use Rattle.report.proofs.write.Statement.{statement}
@@ -63,8 +63,8 @@ returns c =
     let sheet = s .args .sheet .now in
     let part = w .write-rows .last .1 .1 .1 .1 .1 .0 in
     has-written store (s .args .desk) (s .pre .1) (s .args .place) sheet (s .pre .3) part _
-    (subst (λ (l : List ℕ). Reports (s .args .desk) (used store) l (drop (rowWidth * s .args .place) sheet) part) (tail-lent headerSize store)
-    (subst (λ (l : List ℕ). Reports (s .args .desk) (used store) (take (length store - headerSize) (drop headerSize store)) l part) (tail-lent (rowWidth * s .args .place) sheet) (w .write-rows .ensures)))
+    (subst (λ (l : List ℕ). Listed (s .args .desk) (used store) l (drop (rowWidth * s .args .place) sheet) part) (tail-lent headerSize store)
+    (subst (λ (l : List ℕ). Listed (s .args .desk) (used store) (take (length store - headerSize) (drop headerSize store)) l part) (tail-lent (rowWidth * s .args .place) sheet) (w .write-rows .ensures)))
     refl
 
 pub write-spec : {M : Type 1} → statement M
