@@ -14,7 +14,7 @@ unfoldable pub raisedEach : ℕ → ℕ → List ℕ → List ℕ → List ℕ
 raisedEach zero c places l = l
 raisedEach (suc j) c places l = raised (width * getD places j 0 + c) (raisedEach j c places l)
 
--- what that asks: each of these counts stands in the numbers, and is no sample's longest when its turn comes
+-- what that asks: each of these counts stands in the numbers, and is not above a sample's longest when its turn comes
 pub record Raisable (m c : ℕ) (places l : List ℕ) : Type 0 where
   pub few : m ≤ deepest + 1
   pub there : (j : ℕ) → j < m → width * getD places j 0 + c < length l
