@@ -8,8 +8,9 @@ use Rattle.contexts.specs.Keys.{digits, keyOf}
 use Rattle.contexts.specs.Sitting.{first, second}
 use Rattle.records.specs.Records.{keys, countsOf, lookup}
 use Rattle.records.specs.Held.{held, keep, without, countAt}
-use Rattle.records.specs.Bumped.{bumpedAt}
-use Rattle.records.specs.Fed.{fedTo, fed, missing}
+use Rattle.records.specs.Bumped.{cellOf, bumpedAt}
+use Rattle.records.specs.Fed.{fedTo, fed, fresh, missing}
+use Rattle.recording.specs.Counted.{grown}
 
 -- after two symbols, and after all four
 half : List (List ℕ)
@@ -27,6 +28,11 @@ held-there = refl
 third : missing 2 (1 ∷ []) half ≡ 1
 unfolding half fedTo bumpedAt digits held sum
 third = refl
+
+-- .. whose record is put in at place 2, once the empty context has got one more
+third-added : grown 2 (1 ∷ []) 1 2 (cellOf first 0) (fedTo 1 2 first 0 (1 ∷ []) half) ≡ fed 2 first 0 (1 ∷ []) half
+unfolding half fedTo bumpedAt digits fresh
+third-added = refl
 
 -- 0 is followed by 1 twice, 1 by 0 once; the second sample has seen nothing
 counts-first : countsOf first (lookup (keyOf 2 (0 ∷ [])) whole) ≡ 0 ∷ 2 ∷ 0 ∷ 0 ∷ 0 ∷ 0 ∷ 0 ∷ 0 ∷ []

@@ -8,5 +8,6 @@ pub mod Around
 pub mod Running
 pub mod Opening
 pub mod Raising
+pub mod Adding
 pub mod Settling
 pub mod Examples

@@ -10,6 +10,7 @@ ghost use Rattle.records.specs.Held.{without, Removable};
 ghost use Rattle.records.specs.Bumped.{raised, Cell, Written};
 ghost use Rattle.records.specs.Fed.{fed, fresh};
 ghost use Rattle.records.specs.Located.{Ready, Insertable, Inserted, Appended};
+ghost use Rattle.recording.specs.Counted.{raisedEach, Raisable, grown, Growable};
 use records::COUNTS;
 use records::DESK_SPAN;
 use records::NEWEST;
@@ -50,6 +51,20 @@ pub fn feed_records(
     ensures { λ r. ⌜ Written (fed desk (sampleOf sample) symbol (now (recent .entry)) (records n (now (numbers .entry)))) r (now (numbers .entry)) (now (numbers .exit)) ⌝ }
 {
     let cell = 1 + (COUNTS * sample as usize + symbol as usize);
+    raise_held(numbers, cell, sought);
+    let found = sought.found;
+    if recent.len() < found {
+        return n;
+    }
+    let places = sought.places;
+    add_missing(numbers, n, desk, recent, found, places[found], cell)
+}
+
+// One more at a cell of each record that was found.
+fn raise_held(numbers: &mut [u32], cell: usize, sought: Sought)
+    requires { ⌜ Raisable (sought .found) cell (sought .places) (now numbers) ⌝ }
+    ensures { λ _. ⌜ now (numbers .exit) ≡ raisedEach (sought .found) cell (sought .places) (now (numbers .entry)) ⌝ }
+{
     let found = sought.found;
     let places = sought.places;
     let mut done: usize = 0;
@@ -57,14 +72,6 @@ pub fn feed_records(
         raise(numbers, WIDTH * places[done] + cell);
         done = done + 1;
     }
-    let more = recent.len() + 1 - found;
-    if more == 0 {
-        return n;
-    }
-    let from = WIDTH * places[found];
-    let to = WIDTH * (n + more);
-    insert(&mut numbers[from..to], desk, recent, found, cell);
-    n + more
 }
 
 // One more at a place.
@@ -73,6 +80,26 @@ fn raise(numbers: &mut [u32], at: usize)
     ensures { λ _. ⌜ now (numbers .exit) ≡ raised at (now (numbers .entry)) ⌝ }
 {
     numbers[at] = numbers[at] + 1;
+}
+
+// New records at a place, for the contexts from length `found` on. Gives the number of records then.
+fn add_missing(
+    numbers: &mut [u32],
+    n: usize,
+    desk: u32,
+    recent: &[u32],
+    found: usize,
+    place: usize,
+    cell: usize,
+) -> usize
+    requires { ⌜ Growable desk (now recent) found place cell n (now numbers) ⌝ }
+    ensures { λ r. ⌜ Written (grown desk (now (recent .entry)) found place cell (records n (now (numbers .entry)))) r (now (numbers .entry)) (now (numbers .exit)) ⌝ }
+{
+    let more = recent.len() + 1 - found;
+    let from = WIDTH * place;
+    let to = WIDTH * (n + more);
+    insert(&mut numbers[from..to], desk, recent, found, cell);
+    n + more
 }
 
 // New records at the front of a part, for the contexts from length `found` on: its last records' room is taken up.
