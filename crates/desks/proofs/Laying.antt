@@ -13,9 +13,9 @@ use Rattle.contexts.specs.Sitting.{Sample, first, second}
 use Rattle.records.specs.Records.{records}
 use Rattle.records.proofs.Lent.{past-lent, agree-later}
 use Rattle.replay.specs.Room.{Opening, naming}
-use Rattle.store.specs.Layout.{headerSize, storeSize, deskStart, room, field, sizeAt, slotsAt, recordsIn}
+use Rattle.store.specs.Layout.{headerSize, storeSize, deskStart, room, field, sizeAt, slotsAt, recordsIn, deskNumbers}
 use Rattle.store.specs.Meaning.{openingAt}
-use Rattle.desks.specs.Changes.{deskNumbers, freshDesk, Opened}
+use Rattle.desks.specs.Changes.{freshDesk, Opened}
 
 -- ---- the part: zeros, then the first four numbers
 

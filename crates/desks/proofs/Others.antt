@@ -24,7 +24,7 @@ use Rattle.records.proofs.Keeping.{lookup-keep}
 use Rattle.replay.specs.Room.{Desk, Room, reserved, reservations}
 use Rattle.replay.specs.Machine.{put}
 use Rattle.replay.proofs.Desks.{put-sum}
-use Rattle.store.specs.Layout.{headerSize, deskStart, room, field, isOpen, recordsIn, totalOf}
+use Rattle.store.specs.Layout.{headerSize, deskStart, room, field, isOpen, recordsIn, totalOf, deskNumbers}
 use Rattle.store.specs.Sound.{deskOk, heldBy, reservedAt, keyOk, sampleOk, tableOk, parentKey, parentOk, recordOk, soundb}
 use Rattle.store.specs.Meaning.{deskAt, meaning}
 use Rattle.store.proofs.Many.{sample-cong}
@@ -33,7 +33,7 @@ use Rattle.store.proofs.Climbing.{key-stands}
 use Rattle.store.proofs.Passing.{record-key}
 use Rattle.store.proofs.Fitting.{desk-reserved, reserved-means}
 use Rattle.store.proofs.Local.{SameDesk, same-size, same-slots, desk-stays}
-use Rattle.desks.specs.Changes.{deskNumbers, Beside}
+use Rattle.desks.specs.Changes.{Beside}
 use Rattle.desks.proofs.Reserving.{header-long}
 
 -- a sound store s and one that has all but desk d's numbers and records

@@ -10,16 +10,12 @@ use Rattle.contexts.specs.Sitting.{Sample}
 use Rattle.records.specs.Held.{without}
 use Rattle.replay.specs.Room.{Opening}
 use Rattle.replay.specs.Machine.{outsideLimits}
-use Rattle.store.specs.Layout.{storeSize, room, used, field, sizeAt, slotsAt, recordsIn}
+use Rattle.store.specs.Layout.{storeSize, deskNumbers, room, used, field, sizeAt, slotsAt, recordsIn}
 use Rattle.store.specs.Plain.{Open}
 use Rattle.store.specs.Sound.{soundb}
 use Rattle.store.specs.Meaning.{openingAt}
 
--- a desk's numbers: open or not, A, D, the reservation, the two lengths, six recent symbols of each sample
-abbrev pub deskNumbers : ℕ
-deskNumbers = 18
-
--- those of a desk that opens: "both samples empty"
+-- the numbers of a desk that opens: "both samples empty"
 abbrev pub freshDesk : Opening → List ℕ
 freshDesk o = 1 ∷ o .symbols ∷ o .depth ∷ o .reserve ∷ replicate 14 0
 

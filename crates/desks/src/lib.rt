@@ -6,12 +6,12 @@ ghost use lib.ListN.{length};
 ghost use Rattle.numbers.specs.Limits.{desks};
 ghost use Rattle.replay.specs.Machine.{opening, closing, atDesk, roomQuestion, outsideLimits};
 ghost use Rattle.replay.specs.Room.{left, naming};
-ghost use Rattle.store.specs.Layout.{headerSize};
+ghost use Rattle.store.specs.Layout.{headerSize, deskNumbers};
 ghost use Rattle.store.specs.Sound.{reservedAt, soundb};
 ghost use Rattle.store.specs.Meaning.{meaning};
 ghost use Rattle.calls.specs.Refusals.{outcomeOf, roomOf};
 ghost use Rattle.calls.specs.Promises.{Moves, Asks};
-ghost use Rattle.desks.specs.Changes.{deskNumbers, freshDesk, Openable, Opened, Closed};
+ghost use Rattle.desks.specs.Changes.{freshDesk, Openable, Opened, Closed};
 use calls::Refusal;
 use calls::RoomLeft;
 use calls::Verdict;
@@ -23,6 +23,7 @@ use recording::remove_desk;
 use soundness::reserved;
 use soundness::sound;
 use store::layout::DEPTH;
+use store::layout::DESK_NUMBERS;
 use store::layout::DESK_SIZE;
 use store::layout::FIRST_DESK;
 use store::layout::HEADER;
@@ -32,9 +33,6 @@ use store::layout::ROOM;
 use store::layout::SYMBOLS;
 use store::layout::USED;
 use store::layout::field_at;
-
-// How many numbers a desk has in the header.
-const DESK_NUMBERS: usize = 18;
 
 // Opens a desk for an alphabet and a depth, and reserves it room. Both samples are empty.
 pub fn open(store: &mut [u32], desk: u32, alphabet: u32, depth: u32, reservation: u32) -> Verdict

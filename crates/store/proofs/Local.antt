@@ -20,7 +20,7 @@ use Rattle.records.specs.Records.{lookup}
 use Rattle.records.specs.Held.{countAt, keep, ofDesk}
 use Rattle.records.proofs.Keeping.{lookup-local}
 use Rattle.replay.specs.Room.{opened}
-use Rattle.store.specs.Layout.{headerSize, deskStart, field, recentField, symbolsAt, depthAt, sizeAt, slotsAt, recordsIn}
+use Rattle.store.specs.Layout.{headerSize, deskStart, deskNumbers, field, recentField, symbolsAt, depthAt, sizeAt, slotsAt, recordsIn}
 use Rattle.store.specs.Sound.{soundb}
 use Rattle.store.specs.Plain.{Open}
 use Rattle.store.specs.Meaning.{openingAt, progressAt, deskAt}
@@ -32,7 +32,7 @@ use Rattle.store.proofs.Fitting.{desk-opened, desk-closed, open?}
 pub record SameDesk (s t : List ℕ) (d : ℕ) : Type 0 where
   pub long-before : headerSize ≤ length s
   pub long-after : headerSize ≤ length t
-  pub fields : (f : ℕ) → f < 18 → field s d f ≡ field t d f
+  pub fields : (f : ℕ) → f < deskNumbers → field s d f ≡ field t d f
   pub kept : keep (ofDesk d) (recordsIn s) ≡ keep (ofDesk d) (recordsIn t)
 
 module _ (s t : List ℕ) (d : ℕ) (e : SameDesk s t d) where

@@ -30,6 +30,10 @@ used s = getD s 1 0
 abbrev pub deskStart : ℕ → ℕ
 deskStart d = 16 + 32 * d
 
+-- .. of which the first 18 are in use: open or not, A, D, the reservation, the two lengths, six recent symbols of each sample
+abbrev pub deskNumbers : ℕ
+deskNumbers = 18
+
 abbrev pub field : List ℕ → ℕ → ℕ → ℕ
 field s d f = getD s (deskStart d + f) 0
 

@@ -17,6 +17,9 @@ pub const FIRST_DESK: usize = 16;
 
 pub const DESK_SIZE: usize = 32;
 
+// How many of them are in use.
+pub const DESK_NUMBERS: usize = 18;
+
 pub const OPEN: usize = 0;
 
 pub const SYMBOLS: usize = 1;
