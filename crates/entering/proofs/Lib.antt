@@ -7,6 +7,7 @@ pub mod Header
 pub mod Filling
 pub mod Sets
 pub mod Numbering
+pub mod Copying
 pub mod Noting
 pub mod Placing
 pub mod Asking
