@@ -9,6 +9,7 @@ pub mod Sets
 pub mod Numbering
 pub mod Copying
 pub mod Noting
+pub mod Heading
 pub mod Placing
 pub mod Asking
 pub mod Writing

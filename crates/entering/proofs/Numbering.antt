@@ -9,13 +9,7 @@ use lib.ListN.{length}
 use Rattle.numbers.specs.Limits.{desks}
 use Rattle.contexts.specs.Sitting.{Sample, first, second, sampleOf, sameSample}
 use Rattle.store.specs.Layout.{headerSize, deskStart, sizeField, recentField}
-use Rattle.store.specs.Sound.{soundb}
-use Rattle.store.proofs.Standing.{sound-stands}
 use Rattle.entering.specs.Noted.{Places}
-
--- a desk's numbers may be read
-pub field-readable : (s : List ℕ) → soundb s ≡ true → (d : ℕ) → d < desks → (n : ℕ) → n < 32 → (headerSize ≤ length s) × (d < desks) × (n < 32)
-field-readable s h d l n m = (omega (arith, sound-stands s h .long), l, m)
 
 -- by the sample's number
 pub size-number : (k : ℕ) → k ≤ 1 → 4 + k ≡ sizeField (sampleOf k)
