@@ -1,4 +1,4 @@
--- The records of a sound store, as a feed finds them. Assumes nothing.
+-- A sound store as a feed finds it: its header and its records. Assumes nothing.
 use mathlib.Core.Path.{_≡_, sym, ap, ap₂, _∙_}
 use mathlib.Core.Bool.{true, false}
 use mathlib.Core.List.{List}
@@ -6,6 +6,7 @@ use Prim.Native.Nat.{ℕ, _+_, _*_, _≤_, _<_}
 use native.Mathlib.Omega.{arith}
 use lib.Dec.{T, ltb, ltb→lt, lt→ltb}
 use lib.ListN.{length, drop, length-drop}
+use Rattle.numbers.specs.Limits.{desks}
 use Rattle.numbers.proofs.Tests.{T?, bool-ext, is-false}
 use Rattle.contexts.specs.Keys.{keyOf}
 use Rattle.contexts.specs.Sitting.{Sample, first, second, isHeld}
@@ -26,6 +27,13 @@ use Rattle.store.proofs.Holding.{total-context}
 module _ (s : List ℕ) (h : soundb s ≡ true) where
   stands : Sound s
   stands = sound-stands s h
+
+  pub header-long : headerSize ≤ length s
+  header-long = omega (arith, stands .long)
+
+  -- a desk's numbers may be read
+  pub field-readable : (d : ℕ) → d < desks → (n : ℕ) → n < 32 → (headerSize ≤ length s) × (d < desks) × (n < 32)
+  field-readable d l n m = (header-long, l, m)
 
   pub body-fits : width * used s ≤ length (drop headerSize s)
   body-fits = rw (length-drop headerSize s) (omega (arith, stands .few, stands .long))

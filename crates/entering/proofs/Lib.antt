@@ -7,7 +7,9 @@ pub mod Header
 pub mod Filling
 pub mod Sets
 pub mod Numbering
+pub mod Copying
 pub mod Noting
+pub mod Heading
 pub mod Placing
 pub mod Asking
 pub mod Writing

@@ -16,10 +16,12 @@ use Rattle.store.specs.Layout.{headerSize, used, deskStart, sizeField, recentFi
 use Rattle.store.proofs.Standing.{sound-stands}
 use Rattle.entering.specs.FedStore.{FedStore, Acceptable, recentAt, recordsFed}
 use Rattle.entering.specs.Noted.{noted, Places}
-use Rattle.entering.proofs.Numbering.{size-number, recent-number, desk-places}
+use Rattle.entering.proofs.Before.{header-long}
+use Rattle.entering.proofs.Numbering.{size-number, recent-number}
 use Rattle.entering.proofs.Filling.{room-enough}
 use Rattle.entering.proofs.Clearing.{clear-from}
-use Rattle.entering.proofs.Placing.{counted-long, counted-header, header-long, fed-store}
+use Rattle.entering.proofs.Heading.{Headed, places}
+use Rattle.entering.proofs.Placing.{headed, fed-store}
 use Rattle.entering.proofs.Asking.{feedable}
 
 module _ (s : List ℕ) (d k a : ℕ) (p : Acceptable s d (sampleOf k) a) (one : k ≤ 1) (r : List ℕ) (e : r ≡ recentAt s d (sampleOf k)) where
@@ -51,17 +53,17 @@ module _ (s : List ℕ) (d k a : ℕ) (p : Acceptable s d (sampleOf k) a) (one :
     unfolding recordsIn
     w′ = rw (e, tail-lent headerSize s) at w
 
+    has-header : Headed s (take headerSize s ++ ys)
+    has-header = headed s ys (header-long s (p .sound)) long′
+
     pub count-fits : m ≤ mostRoom
     count-fits = omega (arith, written-count _ m (drop headerSize s) ys w′, room-enough s d (sampleOf k) a p, sound-stands s (p .sound) .room-most)
 
     size-there : getD (take headerSize s ++ ys) (deskStart d + sizeField (sampleOf k)) 0 < longest
-    size-there = rw (counted-header s d (sampleOf k) a p m ys long′ w′ (deskStart d + sizeField (sampleOf k)) (omega (arith, p .at-open .desk, size-number k one))) (p .not-full)
+    size-there = rw (has-header .header (deskStart d + sizeField (sampleOf k)) (omega (arith, p .at-open .desk, size-number k one))) (p .not-full)
 
     pub note-asks : Places (deskStart d + (4 + k)) (deskStart d + (6 + 6 * k)) back × (getD back (deskStart d + (4 + k)) 0 < longest)
-    note-asks =
-        let n = counted-long s d (sampleOf k) a p m ys long′ w′ in
-        let h = header-long s d (sampleOf k) a p m ys long′ w′ in
-        rw (back-is, size-number k one, recent-number k one) (desk-places (take headerSize s ++ ys) d (sampleOf k) (p .at-open .desk) (omega arith), size-there)
+    note-asks = rw (back-is, size-number k one, recent-number k one) (places s (take headerSize s ++ ys) has-header d (p .at-open .desk) (sampleOf k) m a, size-there)
 
     -- THEOREM. What comes of it is the store fed
     pub written : (t : List ℕ) → t ≡ noted m (deskStart d + (4 + k)) (deskStart d + (6 + 6 * k)) a back → FedStore s t d (sampleOf k) a

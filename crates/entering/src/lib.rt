@@ -1,4 +1,4 @@
-// A feed entered into a store: where its contexts stand, whether those missing pass the reservation, its records and its header.
+// A feed entered into a store: the symbols that it follows, where its contexts stand, whether those missing pass the reservation, its records and its header.
 ghost use mathlib.Core.Path.{_≡_};
 ghost use mathlib.Core.Bool.{true};
 ghost use Prim.Native.Nat.{min, _+_, _-_, _≤_, _<_};
@@ -12,6 +12,7 @@ ghost use Rattle.records.specs.Fed.{Askable};
 ghost use Rattle.records.specs.Located.{Located};
 ghost use Rattle.store.specs.Layout.{headerSize, used, reserveAt, recordsIn};
 ghost use Rattle.store.specs.Sound.{soundb, heldBy};
+ghost use Rattle.store.specs.Plain.{Open};
 ghost use Rattle.entering.specs.FedStore.{shifted, recentAt, Found, Spanned, Acceptable, FedStore};
 ghost use Rattle.entering.specs.Noted.{noted, Places};
 use recording::feed_records;
@@ -19,6 +20,7 @@ use records::DESK_SPAN;
 use records::Sought;
 use records::place_from;
 use records::seek;
+use store::layout::DEPTH;
 use store::layout::DESK_SIZE;
 use store::layout::FIRST_DESK;
 use store::layout::HEADER;
@@ -29,8 +31,31 @@ use store::layout::SLOTS;
 use store::layout::USED;
 use store::layout::field_at;
 
+// The symbols of a sample that the next one follows, most recent first: the first `many` of six.
+pub struct Latest {
+    pub symbols: [u32; 6],
+    pub many: usize,
+}
+
+// Copies the up to D most recent symbols of a sample.
+pub fn recent_of(store: &[u32], desk: u32, sample: u32) -> Latest
+    requires { ⌜ (soundb (now store) ≡ true) × Open (now store) desk × (sample ≤ 1) ⌝ }
+    ensures { λ r. ⌜ (r .many ≤ length (r .symbols)) × (take (r .many) (r .symbols) ≡ recentAt (now (store .entry)) desk (sampleOf sample)) ⌝ }
+{
+    let d = desk as usize;
+    let i = sample as usize;
+    let size = field_at(store, d, SIZE_FIRST + i);
+    let depth = field_at(store, d, DEPTH);
+    let many = fewer(size, depth) as usize;
+    let symbols = six_from(
+        store,
+        FIRST_DESK + DESK_SIZE * d + (RECENT_FIRST + SLOTS * i),
+    );
+    Latest { symbols, many }
+}
+
 // The smaller of two numbers.
-pub fn fewer(a: u32, b: u32) -> u32
+fn fewer(a: u32, b: u32) -> u32
     ensures { λ r. ⌜ r ≡ min a b ⌝ }
 {
     if a < b {
@@ -40,7 +65,7 @@ pub fn fewer(a: u32, b: u32) -> u32
 }
 
 // The six recent symbols from a place on.
-pub fn six_from(store: &[u32], at: usize) -> [u32; 6]
+fn six_from(store: &[u32], at: usize) -> [u32; 6]
     requires { ⌜ at + deepest ≤ length (now store) ⌝ }
     ensures { λ r. ⌜ r ≡ take deepest (drop at (now (store .entry))) ⌝ }
 {

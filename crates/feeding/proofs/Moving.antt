@@ -31,6 +31,7 @@ use Rattle.rules.specs.Feed as rule
 use Rattle.rules.specs.Rules.{feed, nextOf, rules}
 use Rattle.entering.specs.FedStore.{FedStore, Acceptable, recentAt, shifted}
 use Rattle.entering.proofs.Recent.{recent-context, recent-within, within, recent-shifted}
+use Rattle.entering.proofs.Before.{header-long}
 use Rattle.entering.proofs.Counted.{same-sym}
 use Rattle.entering.proofs.Header.{same?, open-after, context-same}
 use Rattle.feeding.proofs.Tallied.{count-after}
@@ -95,8 +96,8 @@ module _ (s t : List ℕ) (d : ℕ) (i : Sample) (a : ℕ) (f : FedStore s t d i
   other-stays : (e : ℕ) → e < desks → e ≢ d → deskAt t e ≡ deskAt s e
   other-stays e l q =
       sym (desk-stays s t e (p .sound) (record {
-        long-before = omega (arith, sound-stands s (p .sound) .long);
-        long-after = omega (arith, sound-stands s (p .sound) .long, f .length-same);
+        long-before = header-long s (p .sound);
+        long-after = omega (arith, header-long s (p .sound), f .length-same);
         fields = λ n m. sym (f .others-same e n l q m);
         kept = sym (other-fed d i a (recentAt s d i) (recent-within s (p .sound) d (p .at-open) i) e (recordsIn s) (λ z. q (sym z)))
             ∙ ap (keep (ofDesk e)) (sym (f .records-fed));

@@ -5,26 +5,20 @@ use mathlib.Core.List.{List}
 use Prim.Native.Nat.{ℕ, _+_, _≤_, _<_}
 use native.Mathlib.Omega.{arith}
 use lib.Dec.{eqb→eq}
-use lib.ListN.{length}
 use Rattle.numbers.specs.Limits.{longest, desks}
 use Rattle.numbers.proofs.Orders.{eq→eqb}
 use Rattle.contexts.specs.Sitting.{sampleOf}
 use Rattle.replay.specs.Table.{refused}
 use Rattle.replay.specs.Machine.{Call, asking, atDesk}
-use Rattle.store.specs.Layout.{headerSize, field, sizeAt}
+use Rattle.store.specs.Layout.{field, sizeAt}
 use Rattle.store.specs.Sound.{soundb}
 use Rattle.store.specs.Plain.{Open}
-use Rattle.store.proofs.Standing.{sound-stands}
 use Rattle.rules.specs.Rules.{feed, rules}
 use Rattle.calls.specs.Promises.{Moves}
 use Rattle.calls.proofs.Settled.{moves-refused}
 use Rattle.entering.specs.FedStore.{Judged}
 use Rattle.feeding.proofs.Judging.{no-such-desk, not-open, no-sample, no-symbol, sample-full}
 use Rattle.entering.proofs.Numbering.{size-number}
-
--- a desk's numbers may be read
-pub field-readable : (s : List ℕ) → soundb s ≡ true → (d : ℕ) → d < desks → (n : ℕ) → n < 32 → (headerSize ≤ length s) × (d < desks) × (n < 32)
-field-readable s h d l n m = (omega (arith, sound-stands s h .long), l, m)
 
 pub opened : (s : List ℕ) (d x : ℕ) → d < desks → x ≡ field s d 0 → x ≡ 1 → Open s d
 opened s d x l e q = record { desk = l; opened = eq→eqb (field s d 0) 1 (sym e ∙ q) }

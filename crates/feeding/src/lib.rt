@@ -1,32 +1,27 @@
 // Feeding at a store: one symbol, and a run of them after one soundness test.
 ghost use mathlib.Core.Path.{_≡_};
 ghost use mathlib.Core.Bool.{true};
+ghost use Rattle.contexts.specs.Sitting.{sampleOf};
 ghost use Rattle.replay.specs.Machine.{atDesk, asking};
 ghost use Rattle.store.specs.Sound.{soundb};
 ghost use Rattle.rules.specs.Rules.{feed};
 ghost use Rattle.calls.specs.Refusals.{outcomeOf, endingOf};
 ghost use Rattle.calls.specs.Promises.{Moves};
-ghost use Rattle.entering.specs.FedStore.{Judged};
+ghost use Rattle.entering.specs.FedStore.{Judged, recentAt};
 ghost use Rattle.calls.specs.Run.{Runs};
 use calls::Ending;
 use calls::Fed;
 use calls::Refusal;
 use calls::Verdict;
-use entering::fewer;
 use entering::is_past;
+use entering::recent_of;
 use entering::seek_in;
-use entering::six_from;
 use entering::write_feed;
 use numbers::DESKS;
 use numbers::LONGEST;
 use soundness::sound;
-use store::layout::DEPTH;
-use store::layout::DESK_SIZE;
-use store::layout::FIRST_DESK;
 use store::layout::OPEN;
-use store::layout::RECENT_FIRST;
 use store::layout::SIZE_FIRST;
-use store::layout::SLOTS;
 use store::layout::SYMBOLS;
 use store::layout::field_at;
 
@@ -102,24 +97,26 @@ fn feed_sound(store: &mut [u32], desk: u32, sample: u32, symbol: u32) -> Verdict
     feed_judged(store, desk, sample, symbol)
 }
 
-// Refusal 10, or the feed: what the other refusals left.
+// What the other refusals left of a feed, after the symbols that it follows are copied.
 fn feed_judged(store: &mut [u32], desk: u32, sample: u32, symbol: u32) -> Verdict
     requires { ⌜ Judged (now store) desk sample symbol ⌝ }
     ensures { λ r. ⌜ Moves (now (store .entry)) (atDesk desk (asking (feed sample symbol))) (outcomeOf r) (now (store .exit)) ⌝ }
 {
-    let d = desk as usize;
-    let i = sample as usize;
-    let size = field_at(store, d, SIZE_FIRST + i);
-    let depth = field_at(store, d, DEPTH);
-    let many = fewer(size, depth) as usize;
-    let slots = six_from(
-        store,
-        FIRST_DESK + DESK_SIZE * d + (RECENT_FIRST + SLOTS * i),
-    );
-    let sought = seek_in(store, desk, &slots[..many]);
-    if is_past(store, desk, &slots[..many], sought) {
+    let latest = recent_of(store, desk, sample);
+    let symbols = latest.symbols;
+    let many = latest.many;
+    feed_after(store, desk, sample, symbol, &symbols[..many])
+}
+
+// Refusal 10, or the feed of a symbol that follows `recent`.
+fn feed_after(store: &mut [u32], desk: u32, sample: u32, symbol: u32, recent: &[u32]) -> Verdict
+    requires { ⌜ Judged (now store) desk sample symbol × (now recent ≡ recentAt (now store) desk (sampleOf sample)) ⌝ }
+    ensures { λ r. ⌜ Moves (now (store .entry)) (atDesk desk (asking (feed sample symbol))) (outcomeOf r) (now (store .exit)) ⌝ }
+{
+    let sought = seek_in(store, desk, recent);
+    if is_past(store, desk, recent, sought) {
         return Verdict::Refused(Refusal::PastReservation);
     }
-    write_feed(store, desk, sample, symbol, &slots[..many], sought);
+    write_feed(store, desk, sample, symbol, recent, sought);
     Verdict::Done
 }

@@ -1,8 +1,8 @@
 -- `entering::is_past` meets its contract: refusal 10. Assumes nothing.
 use native.Mathlib.Omega.{arith}
-use Rattle.store.proofs.Standing.{sound-stands}
-use Rattle.entering.proofs.Asking.{none-past, few-places, spanned, sum-small, past-is}
 use borrow.Author.Needs.{needs}
+use Rattle.entering.proofs.Before.{header-long, field-readable}
+use Rattle.entering.proofs.Asking.{none-past, few-places, spanned, sum-small, past-is}
 use Rattle.entering.proofs.is_past.Statement.{statement}
 use Rattle.entering.proofs.is_past.Tie as tie
 
@@ -19,22 +19,16 @@ sub-more : tie.Need-sub-more
 sub-more c = search needs
 
 shared-slice-read-many : tie.Need-shared-slice-read-many
-shared-slice-read-many c =
-    let start = c .before .before .before .before .before in
-    omega (arith, sound-stands (start .args .store .now) (start .pre .sound) .long)
+shared-slice-read-many c = omega (arith, header-long (c .before .before .before .before .before .args .store .now) (c .before .before .before .before .before .pre .sound))
 
 cast-many : tie.Need-cast-many
 cast-many c = omega (arith, c .shared-slice-known3 .given 1)
 
 sub-held-by : tie.Need-sub-held-by
-sub-held-by c =
-    let start = c .before .before .before .before .before in
-    omega (arith, sound-stands (start .args .store .now) (start .pre .sound) .long)
+sub-held-by c = omega (arith, header-long (c .before .before .before .before .before .args .store .now) (c .before .before .before .before .before .pre .sound))
 
 part-held-by-start : tie.Need-part-held-by-start
-part-held-by-start c =
-    let start = c .before .before .before .before .before in
-    omega (arith, sound-stands (start .args .store .now) (start .pre .sound) .long)
+part-held-by-start c = omega (arith, header-long (c .before .before .before .before .before .args .store .now) (c .before .before .before .before .before .pre .sound))
 
 part-held-by-end : tie.Need-part-held-by-end
 part-held-by-end c = search needs
@@ -61,7 +55,7 @@ field-at-requires : tie.Need-field-at-requires
 field-at-requires c κs =
     let start = c .before .before .before .before .before .before .before in
     let x = start .args in
-    (omega (arith, sound-stands (x .store .now) (start .pre .sound) .long), start .pre .at-open .desk, omega arith)
+    field-readable (x .store .now) (start .pre .sound) (x .desk) (start .pre .at-open .desk) 3 (omega arith)
 
 cast-reserve : tie.Need-cast-reserve
 cast-reserve c = search needs

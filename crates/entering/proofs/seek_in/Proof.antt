@@ -1,28 +1,22 @@
 -- `entering::seek_in` meets its contract. Assumes nothing.
 use native.Mathlib.Omega.{arith}
-use Rattle.store.proofs.Standing.{sound-stands}
+use Rattle.entering.proofs.Before.{header-long}
 use Rattle.entering.proofs.Asking.{lent-askable, located-in}
 use borrow.Author.Needs.{needs}
 use Rattle.entering.proofs.seek_in.Statement.{statement}
 use Rattle.entering.proofs.seek_in.Tie as tie
 
 shared-slice-read-many : tie.Need-shared-slice-read-many
-shared-slice-read-many c =
-    let start = c .before .before .before in
-    omega (arith, sound-stands (start .args .store .now) (start .pre .0) .long)
+shared-slice-read-many c = omega (arith, header-long (c .before .before .before .args .store .now) (c .before .before .before .pre .0))
 
 cast-many : tie.Need-cast-many
 cast-many c = omega (arith, c .shared-slice-known3 .given 1)
 
 sub-seek : tie.Need-sub-seek
-sub-seek c =
-    let start = c .before .before .before in
-    omega (arith, sound-stands (start .args .store .now) (start .pre .0) .long)
+sub-seek c = omega (arith, header-long (c .before .before .before .args .store .now) (c .before .before .before .pre .0))
 
 part-seek-start : tie.Need-part-seek-start
-part-seek-start c =
-    let start = c .before .before .before in
-    omega (arith, sound-stands (start .args .store .now) (start .pre .0) .long)
+part-seek-start c = omega (arith, header-long (c .before .before .before .args .store .now) (c .before .before .before .pre .0))
 
 part-seek-end : tie.Need-part-seek-end
 part-seek-end c = search needs

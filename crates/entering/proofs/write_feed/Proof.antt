@@ -1,28 +1,22 @@
 -- `entering::write_feed` meets its contract. Assumes nothing.
 use native.Mathlib.Omega.{arith}
 use borrow.Author.Needs.{needs}
-use Rattle.store.proofs.Standing.{sound-stands}
+use Rattle.entering.proofs.Before.{header-long}
 use Rattle.entering.proofs.Writing.{lent-ready, count-fits, note-asks, written}
 use Rattle.entering.proofs.write_feed.Statement.{statement}
 use Rattle.entering.proofs.write_feed.Tie as tie
 
 slice-read-many : tie.Need-slice-read-many
-slice-read-many c =
-    let start = c .before .before .before in
-    omega (arith, sound-stands (start .args .store .now) (start .pre .0 .sound) .long)
+slice-read-many c = omega (arith, header-long (c .before .before .before .args .store .now) (c .before .before .before .pre .0 .sound))
 
 cast-many : tie.Need-cast-many
 cast-many c = omega (arith, c .slice-known2 .given 1)
 
 sub-body : tie.Need-sub-body
-sub-body c =
-    let start = c .before .before .before in
-    omega (arith, sound-stands (start .args .store .now) (start .pre .0 .sound) .long)
+sub-body c = omega (arith, header-long (c .before .before .before .args .store .now) (c .before .before .before .pre .0 .sound))
 
 part-body-start : tie.Need-part-body-start
-part-body-start c =
-    let start = c .before .before .before in
-    omega (arith, sound-stands (start .args .store .now) (start .pre .0 .sound) .long)
+part-body-start c = omega (arith, header-long (c .before .before .before .args .store .now) (c .before .before .before .pre .0 .sound))
 
 part-body-end : tie.Need-part-body-end
 part-body-end c = search needs
