@@ -72,7 +72,7 @@ judged (l ∷ ls) x = go (applies l) (judged ls x)
     go false t = t
 
 report-told : (ρ : Room Progress) (d sheet place : ℕ) → Told (verdict rules ρ (atDesk d (asking (reporting sheet place))))
-unfolding verdict verdictOf tableOf tableAt askingTable answerOf answerAt sitting.answerOf
+unfolding verdict verdictOf tableOf tableAt askingTable answerOf answerAt sitting.askAnswer
 report-told ρ d sheet place = go (ρ .at d)
   where
     no-sitting : (b : Bool) → Told (cond b (refused 2) (refused 4))

@@ -23,7 +23,7 @@ use Rattle.store.specs.Plain.{Open, ContextAt}
 use Rattle.store.specs.Meaning.{openingAt, progressAt, sittingAt, meaning}
 use Rattle.store.proofs.Fitting.{desk-opened, desk-closed}
 use Rattle.rules.specs.Question.{isCode, notAsked, charted}
-use Rattle.rules.specs.Rules.{Ask, charting, point, linesOf, answerOf, rules}
+use Rattle.rules.specs.Rules.{Ask, charting, point, linesOf, askAnswer, rules}
 use Rattle.calls.specs.Promises.{Asks}
 use Rattle.calls.proofs.Settled.{asks-answered}
 use Rattle.charting.specs.declared.Named.the-variants.{Key, NoContext}
@@ -50,7 +50,7 @@ module _ (s : List ℕ) (e : soundb s ≡ true) (d : ℕ) where
   module _ (o : Open s d) (len code a : ℕ) where
     by-lines : verdict rules (meaning s) (atDesk d (asking (charting len code a)))
         ≡ cond (notAsked (openingAt s d) len code a) (refused 8) (answered (point (charted (openingAt s d) (progressAt s d) len code a)))
-    unfolding verdict tableOf tableAt askingTable ownLines verdictOf machine.answerOf answerAt meaning linesOf answerOf
+    unfolding verdict tableOf tableAt askingTable ownLines verdictOf machine.answerOf answerAt meaning linesOf askAnswer
     by-lines = rw (lt-leb desks d (o .desk), desk-opened s d o)
 
     not-of-sitting : notAsked (openingAt s d) len code a ≡ true → Asks s (atDesk d (asking (charting len code a))) (refused 8)

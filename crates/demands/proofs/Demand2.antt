@@ -50,7 +50,7 @@ same-report q r e = cc
 -- after any run on a newly made store an accepted report is that of its sitting's own strings
 next-report : (K : Making) (σ τ υ : List ℕ) (cs : List (Call rules)) (os : List (Outcome Answer)) → MadeNew K σ → Run σ cs os τ → (d sheet place : ℕ) (r : Reported)
     → Does τ (atDesk d (asking (reporting sheet place))) (answered (reported r)) υ → OfItsStrings (sittings rules [] (struck rules cs os)) d r
-unfolding answerAt sitting.answerOf
+unfolding answerAt sitting.askAnswer
 next-report K σ τ υ cs os made run d sheet place r does = go (meaning τ .at d) refl
   where
     real : RunsReal rules (List ℕ) contracts σ cs os τ

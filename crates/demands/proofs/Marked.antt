@@ -17,9 +17,9 @@ use Rattle.demands.specs.Marked.{AllHold, marked, wider}
 
 -- THEOREM
 pub marked-hold : AllHold marked
-unfolding marked L sum codeOf total sumℤ totalℤ spread best joint tree estimate gather members reserved left verdictOf put settle outsideLimits zeroOrAboveK aboveRoomLeft openingTable ownLines askingTable tableAt tableOf answerAt answerOf verdict moved shift move outcomes afterFeed sitting.linesOf sitting.answerOf sitting.nextOf
+unfolding marked L sum codeOf total sumℤ totalℤ spread best joint tree estimate gather members reserved left verdictOf put settle outsideLimits zeroOrAboveK aboveRoomLeft openingTable ownLines askingTable tableAt tableOf answerAt answerOf verdict moved shift move outcomes afterFeed sitting.linesOf sitting.askAnswer sitting.nextOf
 marked-hold = refl
 
 pub wider-hold : AllHold wider
-unfolding wider L sum codeOf total sumℤ totalℤ spread best joint tree estimate gather members reserved left verdictOf put settle outsideLimits zeroOrAboveK aboveRoomLeft openingTable ownLines askingTable tableAt tableOf answerAt answerOf verdict moved shift move outcomes afterFeed sitting.linesOf sitting.answerOf sitting.nextOf
+unfolding wider L sum codeOf total sumℤ totalℤ spread best joint tree estimate gather members reserved left verdictOf put settle outsideLimits zeroOrAboveK aboveRoomLeft openingTable ownLines askingTable tableAt tableOf answerAt answerOf verdict moved shift move outcomes afterFeed sitting.linesOf sitting.askAnswer sitting.nextOf
 wider-hold = refl

@@ -4,23 +4,18 @@ use native.Mathlib.Omega.{arith}
 use mathlib.Core.Path.{_≡_, ap}
 use mathlib.Core.Bool.{true}
 use mathlib.Core.List.{List}
-use lib.ListN.{length}
 use Rattle.numbers.specs.Limits.{desks, mostRoom}
 use Rattle.numbers.specs.Sum.{sum}
 use Rattle.replay.specs.Room.{left}
 use Rattle.replay.specs.Table.{answered, verdictOf}
 use Rattle.replay.specs.Machine.{roomQuestion, verdict, tableOf, answerOf}
-use Rattle.store.specs.Layout.{headerSize, room}
+use Rattle.store.specs.Layout.{room}
 use Rattle.store.specs.Sound.{reservedAt, soundb}
 use Rattle.store.specs.Meaning.{meaning}
 use Rattle.store.proofs.Passing.{passed}
 use Rattle.store.proofs.Fitting.{reserved-means}
 use Rattle.rules.specs.Rules.{rules}
 use Rattle.rules.specs.Rules as answer
-
--- a sound store has its header
-pub header-long : (s : List ℕ) → soundb s ≡ true → headerSize ≤ length s
-header-long s h = omega (arith, passed s h .framed .long)
 
 -- the room left, as the numbers have it
 pub left-is : (s : List ℕ) → left (meaning s) ≡ room s - sum desks (reservedAt s)

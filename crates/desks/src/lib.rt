@@ -7,7 +7,7 @@ ghost use Rattle.numbers.specs.Limits.{desks};
 ghost use Rattle.replay.specs.Machine.{opening, closing, atDesk, roomQuestion, outsideLimits};
 ghost use Rattle.replay.specs.Room.{left, naming};
 ghost use Rattle.store.specs.Layout.{headerSize, deskNumbers};
-ghost use Rattle.store.specs.Sound.{reservedAt, soundb};
+ghost use Rattle.store.specs.Sound.{soundb};
 ghost use Rattle.store.specs.Meaning.{meaning};
 ghost use Rattle.calls.specs.Refusals.{outcomeOf, roomOf};
 ghost use Rattle.calls.specs.Promises.{Moves, Asks};

@@ -28,7 +28,7 @@ use Rattle.records.proofs.Lent.{tail-lent}
 use Rattle.recording.proofs.Desks.{length-without, without-cut}
 use Rattle.store.specs.Layout.{headerSize, room, used, field, reserveAt, recordsIn, totalOf}
 use Rattle.store.specs.Sound.{soundb, heldBy}
-use Rattle.store.specs.Plain.{Open, recordFor, recordAt}
+use Rattle.store.specs.Plain.{Open, recordFor, nthRecord}
 use Rattle.store.proofs.Parts.{records-length}
 use Rattle.store.proofs.Standing.{sound-stands}
 use Rattle.entering.specs.FedStore.{Found, Spanned, Acceptable, recentAt}
@@ -46,8 +46,8 @@ count-small s h i a k l =
     (λ n m.
     let g = sound-stands s h in
     let c = g .each-counts n (omega (arith, records-length s)) in
-    let own : recordFor s (c .desk) (c .context) ≡ recordAt s n = ap (λ (x : ℕ). lookup x (recordsIn s)) (sym (c .under-key)) ∙ lookup-place 0 n (recordsIn s) (rising s h) m in
-    let part : countOf i (recordAt s n) a ≤ totalOf i (recordAt s n) = sum-part mostSymbols (countOf i (recordAt s n)) a l in
+    let own : recordFor s (c .desk) (c .context) ≡ nthRecord s n = ap (λ (x : ℕ). lookup x (recordsIn s)) (sym (c .under-key)) ∙ lookup-place 0 n (recordsIn s) (rising s h) m in
+    let part : countOf i (nthRecord s n) a ≤ totalOf i (nthRecord s n) = sum-part mostSymbols (countOf i (nthRecord s n)) a l in
     omega (arith, ap (totalOf i) own, g .totals (c .desk) (c .at-open) (c .context) (c .is-context) i, g .lengths (c .desk) (c .at-open) i))
 
 pub feedable : (s : List ℕ) (d k a : ℕ) → k ≤ 1 → Acceptable s d (sampleOf k) a → Feedable d k a (recentAt s d (sampleOf k)) (used s) (drop headerSize s)

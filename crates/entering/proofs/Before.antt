@@ -6,7 +6,6 @@ use Prim.Native.Nat.{ℕ, _+_, _*_, _≤_, _<_}
 use native.Mathlib.Omega.{arith}
 use lib.Dec.{T, ltb, ltb→lt, lt→ltb}
 use lib.ListN.{length, drop, length-drop}
-use Rattle.numbers.specs.Limits.{desks}
 use Rattle.numbers.proofs.Tests.{T?, bool-ext, is-false}
 use Rattle.contexts.specs.Keys.{keyOf}
 use Rattle.contexts.specs.Sitting.{Sample, first, second, isHeld}
@@ -17,7 +16,7 @@ use Rattle.records.proofs.Finding.{held-place, lookup-place, lookup-absent}
 use Rattle.records.proofs.Counting.{total-blank}
 use Rattle.store.specs.Layout.{headerSize, used, recordsIn, totalOf}
 use Rattle.store.specs.Sound.{soundb}
-use Rattle.store.specs.Plain.{Open, ContextAt, totalAt, recordAt, Sound}
+use Rattle.store.specs.Plain.{Open, ContextAt, totalAt, nthRecord, Sound}
 use Rattle.store.specs.Meaning.{sittingAt}
 use Rattle.store.proofs.Parts.{records-length}
 use Rattle.store.proofs.Passing.{passed}
@@ -27,13 +26,6 @@ use Rattle.store.proofs.Holding.{total-context}
 module _ (s : List ℕ) (h : soundb s ≡ true) where
   stands : Sound s
   stands = sound-stands s h
-
-  pub header-long : headerSize ≤ length s
-  header-long = omega (arith, stands .long)
-
-  -- a desk's numbers may be read
-  pub field-readable : (d : ℕ) → d < desks → (n : ℕ) → n < 32 → (headerSize ≤ length s) × (d < desks) × (n < 32)
-  field-readable d l n m = (header-long, l, m)
 
   pub body-fits : width * used s ≤ length (drop headerSize s)
   body-fits = rw (length-drop headerSize s) (omega (arith, stands .few, stands .long))
@@ -54,7 +46,7 @@ module _ (s : List ℕ) (h : soundb s ≡ true) where
   held-seen k t =
       let p = held-place k (recordsIn s) t in
       let inside : p .place < used s = omega (arith, p .inside, records-length s) in
-      let r : lookup k (recordsIn s) ≡ recordAt s (p .place) = ap (λ (m : ℕ). lookup m (recordsIn s)) (sym (p .has)) ∙ lookup-place 0 (p .place) (recordsIn s) rising (p .inside) in
+      let r : lookup k (recordsIn s) ≡ nthRecord s (p .place) = ap (λ (m : ℕ). lookup m (recordsIn s)) (sym (p .has)) ∙ lookup-place 0 (p .place) (recordsIn s) rising (p .inside) in
       rw r (stands .each-counts (p .place) inside .seen)
 
   pub absent-total : (i : Sample) (k : ℕ) → held k (recordsIn s) ≡ false → totalOf i (lookup k (recordsIn s)) ≡ 0

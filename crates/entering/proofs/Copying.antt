@@ -11,8 +11,8 @@ use Rattle.store.specs.Layout.{deskStart, field, depthAt, sizeAt, slotsAt}
 use Rattle.store.specs.Sound.{soundb}
 use Rattle.store.specs.Plain.{Open}
 use Rattle.store.proofs.Standing.{sound-stands, slots-long}
+use Rattle.store.proofs.Passing.{header-long}
 use Rattle.entering.specs.FedStore.{recentAt}
-use Rattle.entering.proofs.Before.{header-long}
 use Rattle.entering.proofs.Numbering.{size-number, recent-number}
 
 module _ (s : List ℕ) (d k : ℕ) (h : soundb s ≡ true) (o : Open s d) (one : k ≤ 1) where

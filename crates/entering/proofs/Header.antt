@@ -15,7 +15,7 @@ use Rattle.numbers.proofs.Orders.{less, same, more, order}
 use Rattle.numbers.proofs.Sums.{sum-cong}
 use Rattle.contexts.specs.Context.{isContext}
 use Rattle.contexts.specs.Sitting.{Sample, first, second, sameSample}
-use Rattle.store.specs.Layout.{deskStart, field, symbolsAt, depthAt, recentField, sizeAt, slotsAt}
+use Rattle.store.specs.Layout.{deskStart, field, symbolsAt, depthAt, recentField, sizeAt, slotsAt, deskNumbers}
 use Rattle.store.specs.Sound.{reservedAt}
 use Rattle.store.specs.Plain.{Open}
 use Rattle.store.proofs.Standing.{sound-stands}
@@ -36,7 +36,7 @@ slot-field u e j k l =
     let at : deskStart e + recentField j + k ≡ deskStart e + (recentField j + k) = omega arith in
     getD-take deepest (drop (deskStart e + recentField j) u) k 0 l ∙ getD-drop (deskStart e + recentField j) u k 0 ∙ ap (λ (n : ℕ). getD u n 0) at
 
-slot-number : (j : Sample) (k : ℕ) → k < deepest → recentField j + k < 18
+slot-number : (j : Sample) (k : ℕ) → k < deepest → recentField j + k < deskNumbers
 slot-number first k l = omega arith
 slot-number second k l = omega arith
 

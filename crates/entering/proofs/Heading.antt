@@ -11,7 +11,7 @@ use Rattle.numbers.specs.Limits.{deepest, desks}
 use Rattle.numbers.specs.Sum.{one}
 use Rattle.numbers.proofs.Orders.{less, same, more, order}
 use Rattle.contexts.specs.Sitting.{Sample, sameSample}
-use Rattle.store.specs.Layout.{headerSize, room, deskStart, field, sizeField, recentField, sizeAt, slotsAt}
+use Rattle.store.specs.Layout.{headerSize, room, deskStart, field, sizeField, recentField, sizeAt, slotsAt, deskNumbers}
 use Rattle.store.proofs.Standing.{slots-long}
 use Rattle.entering.specs.FedStore.{shifted}
 use Rattle.entering.specs.Noted.{noted, Places}
@@ -46,7 +46,7 @@ module _ (s u : List ℕ) (h : Headed s u) (d : ℕ) (l : d < desks) (i : Sample
   pub room-stays : room done ≡ room s
   room-stays = let f = fields-of i in before 0 (λ z. omega arith) (λ z. omega arith) (omega (arith, f .slots, f .low)) (omega arith)
 
-  pub others-stay : (e f : ℕ) → e < desks → e ≢ d → f < 18 → field done e f ≡ field s e f
+  pub others-stay : (e f : ℕ) → e < desks → e ≢ d → f < deskNumbers → field done e f ≡ field s e f
   others-stay e f n q b =
       let g = fields-of i in
       elim (order e d) [

@@ -14,9 +14,9 @@ use Rattle.records.proofs.Lent.{tail-lent, tail-back}
 use Rattle.recording.proofs.Settling.{written-count}
 use Rattle.store.specs.Layout.{headerSize, used, deskStart, sizeField, recentField, recordsIn}
 use Rattle.store.proofs.Standing.{sound-stands}
+use Rattle.store.proofs.Passing.{header-long}
 use Rattle.entering.specs.FedStore.{FedStore, Acceptable, recentAt, recordsFed}
 use Rattle.entering.specs.Noted.{noted, Places}
-use Rattle.entering.proofs.Before.{header-long}
 use Rattle.entering.proofs.Numbering.{size-number, recent-number}
 use Rattle.entering.proofs.Filling.{room-enough}
 use Rattle.entering.proofs.Clearing.{clear-from}

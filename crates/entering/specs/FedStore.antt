@@ -15,7 +15,7 @@ use Rattle.records.specs.Records.{records, keys}
 use Rattle.records.specs.Held.{rank, Standing}
 use Rattle.records.specs.Fed.{fed, missing}
 use Rattle.records.specs.Located.{Located}
-use Rattle.store.specs.Layout.{storeSize, room, field, symbolsAt, depthAt, reserveAt, sizeAt, slotsAt, recordsIn}
+use Rattle.store.specs.Layout.{storeSize, room, field, symbolsAt, depthAt, reserveAt, sizeAt, slotsAt, recordsIn, deskNumbers}
 use Rattle.store.specs.Sound.{soundb, heldBy}
 use Rattle.store.specs.Plain.{Open}
 
@@ -65,7 +65,7 @@ shifted a slots = a ∷ take 5 slots
 pub record FedStore (s t : List ℕ) (d : ℕ) (i : Sample) (a : ℕ) : Type 0 where
   pub room-same : room t ≡ room s
   -- the other desks' numbers, and A, D and the reservation of this one
-  pub others-same : (e f : ℕ) → e < desks → e ≢ d → f < 18 → field t e f ≡ field s e f
+  pub others-same : (e f : ℕ) → e < desks → e ≢ d → f < deskNumbers → field t e f ≡ field s e f
   pub limits-same : (f : ℕ) → f < 4 → field t d f ≡ field s d f
   -- the sample is longer by one, and its recent symbols have moved on
   pub sizes : (j : Sample) → sizeAt t d j ≡ sizeAt s d j + one (sameSample j i)

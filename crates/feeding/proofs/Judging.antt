@@ -42,7 +42,7 @@ module _ (s : List ℕ) (d k a : ℕ) where
     at-open : said ≡ cond (rule.notOfSitting (openingAt s d) k a) (refused 8)
         (cond (rule.isFull (progressAt s d) k) (refused 9)
         (cond (rule.pastReservation (openingAt s d) (progressAt s d) k a) (refused 10) (answered done)))
-    unfolding verdict tableOf tableAt askingTable ownLines verdictOf meaning linesOf machine.answerOf answerAt rules.answerOf
+    unfolding verdict tableOf tableAt askingTable ownLines verdictOf meaning linesOf machine.answerOf answerAt rules.askAnswer
     at-open = rw (lt-leb desks d (o .desk), desk-opened s d o)
 
     pub no-sample : 1 < k → said ≡ refused 8

@@ -27,11 +27,11 @@ use Rattle.store.specs.Meaning.{openingAt, progressAt, deskAt, meaning}
 use Rattle.store.proofs.Standing.{sound-stands}
 use Rattle.store.proofs.Fitting.{desk-opened, desk-closed}
 use Rattle.store.proofs.Local.{desk-stays}
+use Rattle.store.proofs.Passing.{header-long}
 use Rattle.rules.specs.Feed as rule
 use Rattle.rules.specs.Rules.{feed, nextOf, rules}
 use Rattle.entering.specs.FedStore.{FedStore, Acceptable, recentAt, shifted}
 use Rattle.entering.proofs.Recent.{recent-context, recent-within, within, recent-shifted}
-use Rattle.entering.proofs.Before.{header-long}
 use Rattle.entering.proofs.Counted.{same-sym}
 use Rattle.entering.proofs.Header.{same?, open-after, context-same}
 use Rattle.feeding.proofs.Tallied.{count-after}

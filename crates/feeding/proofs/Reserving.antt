@@ -18,7 +18,7 @@ use Rattle.contexts.proofs.KeyOrder.{deskOf-key}
 use Rattle.contexts.proofs.Totalling.{total-within}
 use Rattle.records.specs.Records.{key}
 use Rattle.records.specs.Held.{held, keep, ofDesk}
-use Rattle.records.specs.Fed.{fed, missing}
+use Rattle.records.specs.Fed.{missing}
 use Rattle.records.proofs.Keeping.{rises-keep, held-keep}
 use Rattle.records.proofs.Finding.{place-held}
 use Rattle.recording.proofs.Feeding.{rising-fed, held-fed}

@@ -20,7 +20,7 @@ use Rattle.records.proofs.Finding.{place-held, lookup-place}
 use Rattle.records.proofs.Rising.{rises-apart}
 use Rattle.store.specs.Layout.{used, symbolsAt, sizeAt, recordsIn, totalOf}
 use Rattle.store.specs.Sound.{soundb}
-use Rattle.store.specs.Plain.{Open, ContextAt, Counts, recordFor, totalAt, recordAt, Sound}
+use Rattle.store.specs.Plain.{Open, ContextAt, Counts, recordFor, totalAt, nthRecord, Sound}
 use Rattle.store.proofs.Parts.{records-length}
 use Rattle.store.proofs.Standing.{sound-stands}
 use Rattle.store.proofs.Converse.{stands-sound}
@@ -87,14 +87,14 @@ module _ (s t : List ℕ) (d : ℕ) (i : Sample) (a : ℕ) (f : FedStore s t d i
       wu = subst Within (begins→take u c b) (context-take _ _ (length u) c (context-within e o c x))
 
   -- every record counts a context of an open desk, at least once
-  counts-after : (j : ℕ) → j < used t → Counts t (recordAt t j)
+  counts-after : (j : ℕ) → j < used t → Counts t (nthRecord t j)
   counts-after j l =
-      let k = key (recordAt t j) in
+      let k = key (nthRecord t j) in
       let inside : j < length (recordsIn t) = omega (arith, records-length t) in
       let held-there = place-held k j (recordsIn t) inside refl in
       let w = owned-after s t d i a f p k held-there in
       let x = within s (p .sound) (w .desk) (w .at-open) (w .context) (w .is-context) in
-      let r : recordFor t (w .desk) (w .context) ≡ recordAt t j = ap (λ (m : ℕ). lookup m (recordsIn t)) (sym (w .under-key)) ∙ lookup-place 0 j (recordsIn t) (rising-after s t d i a f p) inside in
+      let r : recordFor t (w .desk) (w .context) ≡ nthRecord t j = ap (λ (m : ℕ). lookup m (recordsIn t)) (sym (w .under-key)) ∙ lookup-place 0 j (recordsIn t) (rising-after s t d i a f p) inside in
       let n = seen-after s t d i a f p (w .desk) (w .context) x (subst (λ (m : ℕ). T (held m (recordsIn t))) (w .under-key) held-there) in
       record {
         desk = w .desk;
@@ -105,10 +105,10 @@ module _ (s t : List ℕ) (d : ℕ) (i : Sample) (a : ℕ) (f : FedStore s t d i
         seen = subst (λ (z : List ℕ). 0 < totalOf first z + totalOf second z) r n;
       }
 
-  in-order-after : (j k : ℕ) → j < k → k < used t → key (recordAt t j) < key (recordAt t k)
+  in-order-after : (j k : ℕ) → j < k → k < used t → key (nthRecord t j) < key (nthRecord t k)
   in-order-after j k l m = rises-apart 0 (recordsIn t) j k (rising-after s t d i a f p) l (omega (arith, records-length t))
 
-  once-after : (j k : ℕ) → j < used t → k < used t → key (recordAt t j) ≡ key (recordAt t k) → j ≡ k
+  once-after : (j k : ℕ) → j < used t → k < used t → key (nthRecord t j) ≡ key (nthRecord t k) → j ≡ k
   once-after j k l m e = elim (order j k) [
     | less n ↦ absurd (let g = in-order-after j k n m in omega arith)
     | same q ↦ q

@@ -60,7 +60,7 @@ module _ (file : List ℕ) (shape : Shape) (h : Holds file shape) (sheet : ℕ) 
 
   -- the question at the desk that has the file's strings
   pub asked : (ρ : Room Progress) → Sits (openingOf shape) (stringsIn file shape) ρ → verdict rules ρ (atDesk 0 (asking (reporting sheet 0))) ≡ verdictOf late (reported its)
-  unfolding verdict verdictOf tableOf tableAt askingTable ownLines linesOf answerOf answerAt sitting.answerOf stringsIn
+  unfolding verdict verdictOf tableOf tableAt askingTable ownLines linesOf answerOf answerAt sitting.askAnswer stringsIn
   asked ρ s =
       let p = s .progress in
       let own = own-report (openingOf shape) (stringsIn file shape) p (s .stands) in

@@ -39,7 +39,7 @@ pub data Ran (o : Opening) (w : Sample → List ℕ) (r : FeedRun) : Type 0 wher
 module _ (o : Opening) (k a : ℕ) (ρ : Room Progress) (p : Progress) (e : ρ .at 0 ≡ opened o p) (known : ltb 1 k ≡ false) (small : a < o .symbols) (short : p .size (sampleOf k) < longest) where
   -- only refusal 10 is left
   feed-told : (b : Bool) → pastReservation o p k a ≡ b → verdict rules ρ (feeding 0 k a) ≡ cond b (refused 10) (answered done)
-  unfolding verdict verdictOf tableOf tableAt askingTable ownLines linesOf answerOf answerAt sitting.answerOf
+  unfolding verdict verdictOf tableOf tableAt askingTable ownLines linesOf answerOf answerAt sitting.askAnswer
   feed-told b f = rw (e, known, lt-leb (o .symbols) a small, lt-leb longest (p .size (sampleOf k)) short, f)
 
   feed-moved : pastReservation o p k a ≡ false → move rules ρ (feeding 0 k a) .at 0 ≡ opened o (afterFeed o (sampleOf k) a p)

@@ -7,7 +7,7 @@ use borrow.Author.Tests.{lt-ltb, le-ltb}
 use Rattle.contexts.specs.Sitting.{Progress, contextsHeld}
 use Rattle.replay.specs.Room.{Room}
 use Rattle.replay.specs.Table.{Line, Outcome, refused, answered, verdictOf}
-use Rattle.replay.specs.Machine.{asking, atDesk, verdict, answerOf}
+use Rattle.replay.specs.Machine.{asking, atDesk, verdict}
 use Rattle.rules.specs.Report.{Reported, report}
 use Rattle.rules.specs.Rules.{done, reporting, reported, rules}
 use Rattle.calls.specs.Refusals.{refusalNumber, writtenOf, endingOf}

@@ -53,7 +53,7 @@ module _ (ρ : Room Progress) (d sheet place : ℕ) where
 
       pub rows-told : place + length (reportOf (sat (o .symbols) (o .depth) p)) ≤ sheet / rowWidth
           → verdict rules ρ (asked d sheet place) ≡ answered (reported (report (sat (o .symbols) (o .depth) p)))
-      unfolding verdict verdictOf tableOf tableAt askingTable ownLines answerOf answerAt sitting.linesOf sitting.answerOf
+      unfolding verdict verdictOf tableOf tableAt askingTable ownLines answerOf answerAt sitting.linesOf sitting.askAnswer
       rows-told h =
           rw (lt-leb desks d l, e, ne-eqb (p .size first) 0 n, ne-eqb (p .size second) 0 m, le-ltb (sheet / rowWidth) (place + length (reportOf (sat (o .symbols) (o .depth) p))) h)
 

@@ -33,10 +33,10 @@ linesOf o p (reporting sheet place) = reportLines o p sheet place
 linesOf o p (charting len code a) = chartLines o len code a
 
 -- what an accepted ask answers, and the sitting after it
-unfoldable pub answerOf : Opening → Progress → Ask → Answer
-answerOf o p (feed i a) = done
-answerOf o p (reporting sheet place) = reported (report (sat (o .symbols) (o .depth) p))
-answerOf o p (charting len code a) = point (charted o p len code a)
+unfoldable pub askAnswer : Opening → Progress → Ask → Answer
+askAnswer o p (feed i a) = done
+askAnswer o p (reporting sheet place) = reported (report (sat (o .symbols) (o .depth) p))
+askAnswer o p (charting len code a) = point (charted o p len code a)
 
 unfoldable pub nextOf : Opening → Progress → Ask → Progress
 nextOf o p (feed i a) = afterFeed o (sampleOf i) a p
@@ -44,4 +44,4 @@ nextOf o p (reporting sheet place) = p
 nextOf o p (charting len code a) = p
 
 abbrev pub rules : Rules
-rules = record { State = Progress; Ask = Ask; Answer = Answer; done = done; room = room; fresh = emptyProgress; lines = linesOf; answer = answerOf; next = nextOf }
+rules = record { State = Progress; Ask = Ask; Answer = Answer; done = done; room = room; fresh = emptyProgress; lines = linesOf; answer = askAnswer; next = nextOf }

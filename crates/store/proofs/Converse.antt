@@ -20,7 +20,7 @@ use Rattle.records.proofs.Rising.{apart-rises}
 use Rattle.records.proofs.Finding.{lookup-place}
 use Rattle.store.specs.Layout.{used, isOpen, symbolsAt, depthAt, sizeAt, slotsAt, recordsIn, totalOf}
 use Rattle.store.specs.Sound.{below, eachSample, deskOk, heldBy, keyOk, quietFrom, countsOk, sampleOk, tableOk, parentOk, recordOk, soundb}
-use Rattle.store.specs.Plain.{Open, ContextAt, recordFor, totalAt, recordAt, Sound}
+use Rattle.store.specs.Plain.{Open, ContextAt, recordFor, totalAt, nthRecord, Sound}
 use Rattle.store.proofs.Many.{sample-of}
 use Rattle.store.proofs.Parts.{records-length}
 use Rattle.store.proofs.Desks.{desk-shut, stands-desk}
@@ -107,11 +107,11 @@ module _ (s : List ℕ) (h : Sound s) where
         (sample-of (parentOk (recordsIn s) r) parent-passes))
 
   -- so does the record at each place
-  record-at : T (rises 0 (keys (recordsIn s))) → (j : ℕ) → j < length (recordsIn s) → T (recordOk s (recordsIn s) (recordAt s j))
+  record-at : T (rises 0 (keys (recordsIn s))) → (j : ℕ) → j < length (recordsIn s) → T (recordOk s (recordsIn s) (nthRecord s j))
   record-at up j l =
       let n = h .each-counts j (inside j l) in
-      let own : recordFor s (n .desk) (n .context) ≡ recordAt s j = ap (λ (k : ℕ). lookup k (recordsIn s)) (sym (n .under-key)) ∙ lookup-place 0 j (recordsIn s) up l in
-      record-passes (recordAt s j) (n .desk) (n .context) (n .at-open) (n .is-context) (n .under-key) own (n .seen)
+      let own : recordFor s (n .desk) (n .context) ≡ nthRecord s j = ap (λ (k : ℕ). lookup k (recordsIn s)) (sym (n .under-key)) ∙ lookup-place 0 j (recordsIn s) up l in
+      record-passes (nthRecord s j) (n .desk) (n .context) (n .at-open) (n .is-context) (n .under-key) own (n .seen)
 
 -- THEOREM. A store that meets document 01's conditions, and what the test asks beyond them, passes the test
 pub stands-sound : (s : List ℕ) → Sound s → soundb s ≡ true

@@ -2,7 +2,7 @@
 use mathlib.Core.Path.{_≡_, ap, subst, _∙_}
 use mathlib.Core.Bool.{true, _&&_, _||_}
 use mathlib.Core.List.{List, []}
-use Prim.Native.Nat.{ℕ, _≤_}
+use Prim.Native.Nat.{ℕ, _≤_, _<_}
 use native.Mathlib.Omega.{arith}
 use lib.Dec.{T, ltb, eqb, leb→le, le→leb, ltb→lt, eqb→eq}
 use lib.ListN.{length, drop, getD, length-take, List·getD-eq-default}
@@ -20,7 +20,7 @@ use Rattle.records.specs.Records.{key, keys, countsOf, startOf, rises, blank}
 use Rattle.records.specs.Held.{held}
 use Rattle.records.proofs.Finding.{lookup-absent, lookup-held, key-lookup}
 use Rattle.records.proofs.Counting.{count-blank, total-blank}
-use Rattle.store.specs.Layout.{room, symbolsAt, depthAt, sizeAt, recordsIn}
+use Rattle.store.specs.Layout.{headerSize, room, symbolsAt, depthAt, sizeAt, recordsIn}
 use Rattle.store.specs.Sound.{eachSample, frameOk, deskOk, heldBy, reservedAt, keyOk, quietFrom, countsOk, sampleOk, tableOk, parentOk, recordOk, recordsOk, soundb}
 use Rattle.store.specs.Plain.{Open, ContextAt, recordFor}
 use Rattle.store.proofs.Many.{sample-at}
@@ -49,6 +49,13 @@ passed s e =
       each-desk = right (recordsOk s rs) _ two;
       reserves = leb→le (sum desks (reservedAt s)) (room s) (right (recordsOk s rs && every desks (deskOk s rs)) _ one);
     }
+
+-- a sound store has its header, so a desk's numbers can be read
+pub header-long : (s : List ℕ) → soundb s ≡ true → headerSize ≤ length s
+header-long s h = omega (arith, passed s h .framed .long)
+
+pub field-readable : (s : List ℕ) → soundb s ≡ true → (d : ℕ) → d < desks → (f : ℕ) → f < 32 → (headerSize ≤ length s) × (d < desks) × (f < 32)
+field-readable s h d l f m = (header-long s h, l, m)
 
 pub passes : (s : List ℕ) → Passed s → soundb s ≡ true
 unfolding soundb recordsOk

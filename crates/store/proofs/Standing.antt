@@ -20,7 +20,7 @@ use Rattle.records.proofs.Rising.{rises-apart}
 use Rattle.records.proofs.Counting.{total-blank}
 use Rattle.store.specs.Layout.{headerSize, deskStart, used, symbolsAt, depthAt, slotsAt, recordsIn, totalOf}
 use Rattle.store.specs.Sound.{below, heldBy, parentKey, recordOk, soundb}
-use Rattle.store.specs.Plain.{Open, ContextAt, recordFor, totalAt, Counts, recordAt, Sound}
+use Rattle.store.specs.Plain.{Open, ContextAt, recordFor, totalAt, Counts, nthRecord, Sound}
 use Rattle.store.proofs.Parts.{records-length}
 use Rattle.store.proofs.Desks.{DeskStands}
 use Rattle.store.proofs.Climbing.{key-stands, table-seen, parent-seen}
@@ -68,9 +68,9 @@ module _ (s : List ℕ) (h : Passed s) where
   inside : (j : ℕ) → j < used s → j < length (recordsIn s)
   inside j l = rw (records-length s) l
 
-  record-counts-one : (j : ℕ) → j < used s → Counts s (recordAt s j)
+  record-counts-one : (j : ℕ) → j < used s → Counts s (nthRecord s j)
   record-counts-one j l =
-      let r = recordAt s j in
+      let r = nthRecord s j in
       let t = all-at (recordOk s (recordsIn s)) (recordsIn s) j [] (h .each) (inside j l) in
       let g = key-stands s (key r) (record-key s (recordsIn s) r t) in
       record {
@@ -82,7 +82,7 @@ module _ (s : List ℕ) (h : Passed s) where
         seen = table-seen s r (record-table s (recordsIn s) r t);
       }
 
-  once : (j k : ℕ) → j < used s → k < used s → key (recordAt s j) ≡ key (recordAt s k) → j ≡ k
+  once : (j k : ℕ) → j < used s → k < used s → key (nthRecord s j) ≡ key (nthRecord s k) → j ≡ k
   once j k l m e = elim (order j k) [
     | less o ↦ absurd (let g = rises-apart 0 (recordsIn s) j k (h .up) o (inside k m) in omega arith)
     | same q ↦ q

@@ -40,8 +40,8 @@ pub record Counts (s r : List ℕ) : Type 0 where
   pub seen : 0 < totalOf first r + totalOf second r
 
 -- record j of those in use
-abbrev pub recordAt : List ℕ → ℕ → List ℕ
-recordAt s j = getD (recordsIn s) j []
+abbrev pub nthRecord : List ℕ → ℕ → List ℕ
+nthRecord s j = getD (recordsIn s) j []
 
 pub record Sound (s : List ℕ) : Type 0 where
   -- "store room K from 1 to 4,096 contexts"
@@ -60,7 +60,7 @@ pub record Sound (s : List ℕ) : Type 0 where
   -- "no sitting holds more contexts than it reserved"
   pub reserved-held : (d : ℕ) → Open s d → heldBy d (recordsIn s) ≤ reserveAt s d
   -- "no context is held twice"
-  pub held-once : (j k : ℕ) → j < used s → k < used s → key (recordAt s j) ≡ key (recordAt s k) → j ≡ k
+  pub held-once : (j k : ℕ) → j < used s → k < used s → key (nthRecord s j) ≡ key (nthRecord s k) → j ≡ k
   -- "no count above 0 stands at a symbol from A up"
   pub counts-below : (d : ℕ) → Open s d → (c : List ℕ) → ContextAt s d c → (i : Sample) (a : ℕ) → symbolsAt s d ≤ a → countOf i (recordFor s d c) a ≡ 0
   -- "no context's total N(s) in a sample passes that sample's length"
@@ -72,6 +72,6 @@ pub record Sound (s : List ℕ) : Type 0 where
   -- beyond: there are no more records than room
   pub few : used s ≤ room s
   -- beyond: every record in use counts a context of an open desk, at least once
-  pub each-counts : (j : ℕ) → j < used s → Counts s (recordAt s j)
+  pub each-counts : (j : ℕ) → j < used s → Counts s (nthRecord s j)
   -- beyond: the records stand in the order of their keys
-  pub in-order : (j k : ℕ) → j < k → k < used s → key (recordAt s j) < key (recordAt s k)
+  pub in-order : (j k : ℕ) → j < k → k < used s → key (nthRecord s j) < key (nthRecord s k)

@@ -3,7 +3,8 @@ use mathlib.Core.Path.{sym, ap, _∙_}
 use Prim.Native.Nat.{ℕ, _-_}
 use native.Mathlib.Omega.{arith}
 use Rattle.store.specs.Layout.{room}
-use Rattle.desks.proofs.Reserving.{header-long, left-is, room-small, reserves-fit}
+use Rattle.store.proofs.Passing.{header-long}
+use Rattle.desks.proofs.Reserving.{left-is, room-small, reserves-fit}
 use Rattle.desks.proofs.left_in.Statement.{statement}
 use Rattle.desks.proofs.left_in.Tie as tie
 

@@ -1,7 +1,7 @@
 -- `entering::is_past` meets its contract: refusal 10. Assumes nothing.
 use native.Mathlib.Omega.{arith}
 use borrow.Author.Needs.{needs}
-use Rattle.entering.proofs.Before.{header-long, field-readable}
+use Rattle.store.proofs.Passing.{header-long, field-readable}
 use Rattle.entering.proofs.Asking.{none-past, few-places, spanned, sum-small, past-is}
 use Rattle.entering.proofs.is_past.Statement.{statement}
 use Rattle.entering.proofs.is_past.Tie as tie

@@ -2,7 +2,7 @@
 use Prim.Native.Nat.{_+_}
 use native.Mathlib.Omega.{arith}
 use borrow.Author.Needs.{needs}
-use Rattle.entering.proofs.Before.{field-readable}
+use Rattle.store.proofs.Passing.{field-readable}
 use Rattle.entering.proofs.Copying.{six-asked, copied}
 use Rattle.entering.proofs.recent_of.Statement.{statement}
 use Rattle.entering.proofs.recent_of.Tie as tie

@@ -1,6 +1,6 @@
 -- `entering::seek_in` meets its contract. Assumes nothing.
 use native.Mathlib.Omega.{arith}
-use Rattle.entering.proofs.Before.{header-long}
+use Rattle.store.proofs.Passing.{header-long}
 use Rattle.entering.proofs.Asking.{lent-askable, located-in}
 use borrow.Author.Needs.{needs}
 use Rattle.entering.proofs.seek_in.Statement.{statement}

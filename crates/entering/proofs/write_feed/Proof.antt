@@ -1,7 +1,7 @@
 -- `entering::write_feed` meets its contract. Assumes nothing.
 use native.Mathlib.Omega.{arith}
 use borrow.Author.Needs.{needs}
-use Rattle.entering.proofs.Before.{header-long}
+use Rattle.store.proofs.Passing.{header-long}
 use Rattle.entering.proofs.Writing.{lent-ready, count-fits, note-asks, written}
 use Rattle.entering.proofs.write_feed.Statement.{statement}
 use Rattle.entering.proofs.write_feed.Tie as tie

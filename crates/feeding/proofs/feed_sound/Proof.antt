@@ -3,7 +3,7 @@ use Prim.Native.Nat.{_+_}
 use native.Mathlib.Omega.{arith}
 use borrow.Author.Needs.{needs}
 use Rattle.store.specs.Plain.{Open}
-use Rattle.entering.proofs.Before.{field-readable}
+use Rattle.store.proofs.Passing.{field-readable}
 use Rattle.feeding.proofs.Refusing.{opened, refused-desk, refused-open, refused-sample, refused-symbol, refused-full, judged}
 use Rattle.feeding.proofs.feed_sound.Statement.{statement}
 use Rattle.feeding.proofs.feed_sound.Tie as tie
