@@ -15,7 +15,7 @@ use Rattle.records.specs.Located.{Ready, Inserted}
 use Rattle.records.proofs.Parts.{length-parts}
 use Rattle.records.proofs.Lent.{agree-later}
 use Rattle.records.proofs.Rising.{rank-within}
-use Rattle.recording.specs.Counted.{raisedEach, grown, Growable}
+use Rattle.recording.specs.Counted.{raisedEach, withMissing, Growable}
 use Rattle.recording.proofs.Growing.{length-fed}
 use Rattle.recording.proofs.Inserting.{run-written}
 use Rattle.recording.proofs.Running.{fed-run, missing-is}
@@ -26,7 +26,7 @@ use Rattle.recording.proofs.Settling.{written-count}
 pub grown-written : {d : ℕ} {r : List ℕ} {m p c n : ℕ} {l : List ℕ} → Growable d r m p c n l
     → (let q = length r + 1 - m in let long = width * (n + q) - width * p in let part = take long (drop (width * p) l) in
     (ys : List ℕ) → length ys ≡ length part → Inserted d r m c part ys
-    → Written (grown d r m p c (records n l)) (n + q) l (take (width * p) l ++ (ys ++ drop long (drop (width * p) l))))
+    → Written (withMissing d r m p c (records n l)) (n + q) l (take (width * p) l ++ (ys ++ drop long (drop (width * p) l))))
 grown-written {r} {m} {p} {n} {l} g ys same b =
     run-written n p (length r + 1 - m) l ys _ (g .place) (g .room) same (b .new) (b .moved)
 
@@ -65,20 +65,20 @@ module _ {d i a : ℕ} {r : List ℕ} {n : ℕ} {l₀ : List ℕ} {m : ℕ} {pla
     }
 
     -- both parts are the feed
-    grown-is : grown d r m (getD places m 0) (cellAt i a) (records n l) ≡ fed d (sampleOf i) a r (records n l₀)
+    grown-is : withMissing d r m (getD places m 0) (cellAt i a) (records n l) ≡ fed d (sampleOf i) a r (records n l₀)
     grown-is =
         let before = fedTo m d (sampleOf i) a r (records n l₀) in
         let k = keyOf d (take m r) in
         let at : getD places m 0 ≡ rank k (keys before) = place-is ∙ ap (λ (t : List (List ℕ)). rank k (keys t)) (held-raised .live) in
-        ap₂ (λ (p : ℕ) (t : List (List ℕ)). grown d r m p (cellAt i a) t) at (held-raised .live)
-        ∙ ap (λ (c : ℕ). grown d r m (rank k (keys before)) c before) (cell-is i a (q .feedable .sample))
+        ap₂ (λ (p : ℕ) (t : List (List ℕ)). withMissing d r m p (cellAt i a) t) at (held-raised .live)
+        ∙ ap (λ (c : ℕ). withMissing d r m (rank k (keys before)) c before) (cell-is i a (q .feedable .sample))
         ∙ sym (fed-run d (sampleOf i) a r cr (records n l₀) up m (q .located .are-held) on (q .clear on))
 
     -- THEOREM. So what comes of them are the records fed
     pub fed-written : (k : ℕ) (after : List ℕ) → (let l₁ = raisedEach m (cellAt i a) places l₀ in
-        Written (grown d r m (getD places m 0) (cellAt i a) (records n l₁)) k l₁ after → Written (fed d (sampleOf i) a r (records n l₀)) k l₀ after)
+        Written (withMissing d r m (getD places m 0) (cellAt i a) (records n l₁)) k l₁ after → Written (fed d (sampleOf i) a r (records n l₀)) k l₀ after)
     fed-written k after w =
-        let count = written-count (grown d r m (getD places m 0) (cellAt i a) (records n l)) k l after w in
+        let count = written-count (withMissing d r m (getD places m 0) (cellAt i a) (records n l)) k l after w in
         let size = ap length grown-is ∙ length-fed d (sampleOf i) a r cr (records n l₀) up in
         record {
           live = w .live ∙ grown-is;

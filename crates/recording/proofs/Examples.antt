@@ -10,7 +10,7 @@ use Rattle.records.specs.Records.{keys, countsOf, lookup}
 use Rattle.records.specs.Held.{held, keep, without, countAt}
 use Rattle.records.specs.Bumped.{cellOf, bumpedAt}
 use Rattle.records.specs.Fed.{fedTo, fed, fresh, missing}
-use Rattle.recording.specs.Counted.{grown}
+use Rattle.recording.specs.Counted.{withMissing}
 
 -- after two symbols, and after all four
 half : List (List ℕ)
@@ -30,7 +30,7 @@ unfolding half fedTo bumpedAt digits held sum
 third = refl
 
 -- .. whose record is put in at place 2, once the empty context has got one more
-third-added : grown 2 (1 ∷ []) 1 2 (cellOf first 0) (fedTo 1 2 first 0 (1 ∷ []) half) ≡ fed 2 first 0 (1 ∷ []) half
+third-added : withMissing 2 (1 ∷ []) 1 2 (cellOf first 0) (fedTo 1 2 first 0 (1 ∷ []) half) ≡ fed 2 first 0 (1 ∷ []) half
 unfolding half fedTo bumpedAt digits fresh
 third-added = refl
 

@@ -21,8 +21,8 @@ pub record Raisable (m c : ℕ) (places l : List ℕ) : Type 0 where
   pub small : (j : ℕ) → j < m → getD (raisedEach j c places l) (width * getD places j 0 + c) 0 ≤ longest
 
 -- the records of the contexts from length m on put in at place p, each with one count at cell c
-abbrev pub grown : ℕ → List ℕ → ℕ → ℕ → ℕ → List (List ℕ) → List (List ℕ)
-grown d recent m p c rs = take p rs ++ (fresh (length recent + 1 - m) m d recent c ++ drop p rs)
+abbrev pub withMissing : ℕ → List ℕ → ℕ → ℕ → ℕ → List (List ℕ) → List (List ℕ)
+withMissing d recent m p c rs = take p rs ++ (fresh (length recent + 1 - m) m d recent c ++ drop p rs)
 
 -- what that asks: that there are some, a place among the n records, and room behind them
 pub record Growable (d : ℕ) (recent : List ℕ) (m p c n : ℕ) (l : List ℕ) : Type 0 where

@@ -10,7 +10,7 @@ ghost use Rattle.records.specs.Held.{without, Removable};
 ghost use Rattle.records.specs.Bumped.{raised, Cell, Written};
 ghost use Rattle.records.specs.Fed.{fed, fresh};
 ghost use Rattle.records.specs.Located.{Ready, Insertable, Inserted, Appended};
-ghost use Rattle.recording.specs.Counted.{raisedEach, Raisable, grown, Growable};
+ghost use Rattle.recording.specs.Counted.{raisedEach, Raisable, withMissing, Growable};
 use records::COUNTS;
 use records::DESK_SPAN;
 use records::NEWEST;
@@ -93,7 +93,7 @@ fn add_missing(
     cell: usize,
 ) -> usize
     requires { ⌜ Growable desk (now recent) found place cell n (now numbers) ⌝ }
-    ensures { λ r. ⌜ Written (grown desk (now (recent .entry)) found place cell (records n (now (numbers .entry)))) r (now (numbers .entry)) (now (numbers .exit)) ⌝ }
+    ensures { λ r. ⌜ Written (withMissing desk (now (recent .entry)) found place cell (records n (now (numbers .entry)))) r (now (numbers .entry)) (now (numbers .exit)) ⌝ }
 {
     let more = recent.len() + 1 - found;
     let from = WIDTH * place;
