@@ -52,13 +52,13 @@ module _ (d k a : ℕ) (ρ : Room Progress) where
 
 -- what is left of the sample bounds the run
 run-short : (d k : ℕ) (symbols : List ℕ) (ρ : Room Progress) → fedRun d k symbols ρ .accepted ≤ longest - sizeAt k (ρ .at d)
-unfolding fedRun run.first
+unfolding fedRun run.thenRest
 run-short d k [] ρ = omega arith
 run-short d k (a ∷ rest) ρ = go (verdict rules ρ (feeding d k a)) refl (run-short d k rest (move rules ρ (feeding d k a)))
   where
     go : (o : Outcome Answer) → verdict rules ρ (feeding d k a) ≡ o
         → fedRun d k rest (move rules ρ (feeding d k a)) .accepted ≤ longest - sizeAt k (move rules ρ (feeding d k a) .at d)
-        → run.first o ρ (fedRun d k rest (move rules ρ (feeding d k a))) .accepted ≤ longest - sizeAt k (ρ .at d)
+        → run.thenRest o ρ (fedRun d k rest (move rules ρ (feeding d k a))) .accepted ≤ longest - sizeAt k (ρ .at d)
     go (refused n) e h = omega arith
     go (answered x) e h = omega (arith, h, grown d k a ρ x e, not-full d k a ρ (ρ .at d) (passes d k a ρ x e))
 

@@ -11,7 +11,7 @@ use Rattle.store.specs.Sound.{soundb}
 use Rattle.store.specs.Meaning.{meaning}
 use Rattle.rules.specs.Rules.{Answer, done}
 use Rattle.calls.specs.Promises.{Moves}
-use Rattle.calls.specs.Run.{FeedRun, first, feeding, fedRun, Runs}
+use Rattle.calls.specs.Run.{FeedRun, thenRest, feeding, fedRun, Runs}
 use Rattle.calls.proofs.Running.{room-moved, ran-start, ran-refused, ran-whole}
 
 -- ---- two results that the promise allows
@@ -52,7 +52,7 @@ module _ (d k : ℕ) where
   -- a feed that was accepted, and then a run
   joined : (s t u : List ℕ) (a : ℕ) (rest : List ℕ) (n : ℕ) (o : Outcome Answer) → soundb s ≡ true → Moves s (feeding d k a) (answered done) t
       → Runs t d k rest n o u → Runs s d k (a ∷ rest) (suc n) o u
-  unfolding fedRun first
+  unfolding fedRun thenRest
   joined s t u a rest n o h m r =
       let then = fedRun d k rest (meaning t) in
       let sound : soundb t ≡ true = m .stays-sound h in

@@ -16,7 +16,7 @@ use Rattle.store.specs.Sound.{soundb}
 use Rattle.store.specs.Meaning.{meaning}
 use Rattle.rules.specs.Rules.{Answer, done, rules}
 use Rattle.calls.specs.Promises.{Moves}
-use Rattle.calls.specs.Run.{FeedRun, first, feeding, fedRun, Runs}
+use Rattle.calls.specs.Run.{FeedRun, thenRest, feeding, fedRun, Runs}
 
 -- ---- no call changes K
 
@@ -62,12 +62,12 @@ module _ (s : List ℕ) (d k : ℕ) (symbols : List ℕ) where
   module _ (x : List ℕ) (n : ℕ) (r : Ran s d k symbols x n) where
     -- the next feed, at x
     next : n < length symbols → fedRun d k (drop n symbols) (meaning x)
-        ≡ first (verdict rules (meaning x) (feeding d k (getD symbols n 0))) (meaning x) (fedRun d k (drop (suc n) symbols) (move rules (meaning x) (feeding d k (getD symbols n 0))))
+        ≡ thenRest (verdict rules (meaning x) (feeding d k (getD symbols n 0))) (meaning x) (fedRun d k (drop (suc n) symbols) (move rules (meaning x) (feeding d k (getD symbols n 0))))
     unfolding fedRun
     next l = rw (drop-cons symbols n 0 l)
 
     pub ran-on : (y : List ℕ) → n < length symbols → Moves x (feeding d k (getD symbols n 0)) (answered done) y → Ran s d k symbols y (n + 1)
-    unfolding ahead first
+    unfolding ahead thenRest
     ran-on y l m =
         let accepts : answered done ≡ verdict rules (meaning x) (feeding d k (getD symbols n 0)) = m .answers (r .sound) in
         let moved : meaning y ≡ move rules (meaning x) (feeding d k (getD symbols n 0)) = m .moves (r .sound) in
@@ -105,7 +105,7 @@ module _ (s : List ℕ) (d k : ℕ) (symbols : List ℕ) where
 
     -- by a refusal
     pub ran-refused : (y : List ℕ) (why : ℕ) → soundb s ≡ true → n < length symbols → Moves x (feeding d k (getD symbols n 0)) (refused why) y → Runs s d k symbols n (refused why) y
-    unfolding first
+    unfolding thenRest
     ran-refused y why h l m =
         let same : y ≡ x = m .refused-stays why refl in
         let stops : refused why ≡ verdict rules (meaning x) (feeding d k (getD symbols n 0)) = m .answers (r .sound) in

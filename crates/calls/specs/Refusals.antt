@@ -5,7 +5,7 @@ use lib.ListN.{drop}
 use Rattle.replay.specs.Table.{Outcome, refused, answered}
 use Rattle.numbers.specs.Limits.{rowWidth}
 use Rattle.rows.specs.Rows.{readRows}
-use Rattle.rules.specs.Rules.{Answer, done, room, reported, point}
+use Rattle.rules.specs.Rules.{Answer, done, contextsLeft, reported, point}
 use Rattle.calls.specs.declared.Refusal.{Refusal}
 use Rattle.calls.specs.declared.Refusal.the-variants.{Unsound, NoSuchDesk, AlreadyOpen, NotOpen, OutsideLimits, BadReservation, NoRoom, NotOfSitting, SampleFull, PastReservation, SampleEmpty, SheetShort}
 use Rattle.calls.specs.declared.Verdict.{Verdict}
@@ -39,7 +39,7 @@ outcomeOf verdict.Done = answered done
 outcomeOf (verdict.Refused why) = refused (refusalNumber why)
 
 abbrev pub roomOf : RoomLeft → Outcome Answer
-roomOf (question.Contexts n) = answered (room n)
+roomOf (question.Contexts n) = answered (contextsLeft n)
 roomOf (question.Refused why) = refused (refusalNumber why)
 
 -- a report's rows are those read from the sheet that it leaves, from row `place` on
@@ -47,7 +47,7 @@ abbrev pub writtenOf : ReportAnswer → ℕ → List ℕ → Outcome Answer
 writtenOf (written.Rows n score) place sheet = answered (reported (record { rows = readRows n (drop (rowWidth * place) sheet); score = score }))
 writtenOf (written.Refused why) place sheet = refused (refusalNumber why)
 
--- "The answer is the shares of a"
+-- "The answer is one of: neither sample saw the context; only the first .."
 abbrev pub chartedOf : ChartAnswer → Outcome Answer
 chartedOf (asked.Answered chart) = answered (point chart)
 chartedOf (asked.Refused why) = refused (refusalNumber why)

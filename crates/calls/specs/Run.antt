@@ -20,9 +20,9 @@ pub record FeedRun : Type 0 where
   pub room : Room Progress
 
 -- a feed at ρ that got an outcome, and the run of those after it where it was accepted
-unfoldable pub first : Outcome Answer → Room Progress → FeedRun → FeedRun
-first (refused n) ρ rest = record { accepted = 0; ending = refused n; room = ρ }
-first (answered x) ρ rest = record { accepted = suc (rest .accepted); ending = rest .ending; room = rest .room }
+unfoldable pub thenRest : Outcome Answer → Room Progress → FeedRun → FeedRun
+thenRest (refused n) ρ rest = record { accepted = 0; ending = refused n; room = ρ }
+thenRest (answered x) ρ rest = record { accepted = suc (rest .accepted); ending = rest .ending; room = rest .room }
 
 -- a feed of symbol a to sample k at desk d
 abbrev pub feeding : ℕ → ℕ → ℕ → Call rules
@@ -31,7 +31,7 @@ feeding d k a = atDesk d (asking (feed k a))
 -- the symbols fed in their order, each as a feed of its own
 unfoldable pub fedRun : ℕ → ℕ → List ℕ → Room Progress → FeedRun
 fedRun d k [] ρ = record { accepted = 0; ending = answered done; room = ρ }
-fedRun d k (a ∷ rest) ρ = first (verdict rules ρ (feeding d k a)) ρ (fedRun d k rest (move rules ρ (feeding d k a)))
+fedRun d k (a ∷ rest) ρ = thenRest (verdict rules ρ (feeding d k a)) ρ (fedRun d k rest (move rules ρ (feeding d k a)))
 
 -- a run on the numbers `before`, of which n feeds were accepted, that ended so and left `after`
 pub record Runs (before : List ℕ) (d k : ℕ) (symbols : List ℕ) (n : ℕ) (o : Outcome Answer) (after : List ℕ) : Type 0 where

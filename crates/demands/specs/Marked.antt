@@ -13,7 +13,7 @@ use Rattle.replay.specs.Room.{new}
 use Rattle.replay.specs.Table.{Outcome, refused, answered}
 use Rattle.replay.specs.Machine.{opening, asking, Call, atDesk}
 use Rattle.replay.specs.Serial.{outcomes}
-use Rattle.rules.specs.Rules.{Answer, done, room, reported, point, feed, reporting, rules}
+use Rattle.rules.specs.Rules.{Answer, done, contextsLeft, reported, point, feed, reporting, rules}
 
 -- ---- the calls of a sitting
 
@@ -30,15 +30,15 @@ callsOf A D r w v = atDesk 0 (opening (record { symbols = A; depth = D; reserve 
 -- a call was done, or refused by its number; or its rows, each as its eleven numbers, and the doubled score
 pub data Said : Type 0 where
   did : Said
-  number : ℕ → Said
+  refusedWith : ℕ → Said
   rows : List (List ℕ) → ℤ → Said
   other : Said
 
 abbrev pub say : Outcome Answer → Said
-say (refused n) = number n
+say (refused n) = refusedWith n
 say (answered done) = did
 say (answered (reported x)) = rows (map numbersOf (x .rows)) (x .score)
-say (answered (room n)) = other
+say (answered (contextsLeft n)) = other
 say (answered (point c)) = other
 
 -- a row's eleven numbers: "0 for symbols from A up"
@@ -98,7 +98,7 @@ marked =
     ∷ logarithm 1023 gives value 10238
     ∷ logarithm 1024 gives value 10240
     ∷ sitting 2 1 3 (0 ∷ 1 ∷ 0 ∷ 1 ∷ []) (0 ∷ 1 ∷ 0 ∷ 1 ∷ []) gives reports (row 0 1 0 (0 ∷ 4 ∷ []) ∷ row 0 1 1 (2 ∷ 0 ∷ []) ∷ []) (negℤ (pos 6144))
-    ∷ sitting 2 1 2 (0 ∷ 1 ∷ 0 ∷ []) [] gives each (did ∷ did ∷ did ∷ number 10 ∷ number 11 ∷ [])
+    ∷ sitting 2 1 2 (0 ∷ 1 ∷ 0 ∷ []) [] gives each (did ∷ did ∷ did ∷ refusedWith 10 ∷ refusedWith 11 ∷ [])
     ∷ sitting 2 1 3 (0 ∷ 1 ∷ 0 ∷ 1 ∷ []) (0 ∷ 0 ∷ 0 ∷ 0 ∷ []) gives reports (row 2 0 0 (4 ∷ 0 ∷ []) ∷ row 1 1 0 (0 ∷ 2 ∷ []) ∷ row 1 1 1 (1 ∷ 0 ∷ []) ∷ []) (negℤ (pos 6144))
     ∷ sitting 2 1 3 (0 ∷ 1 ∷ 0 ∷ 1 ∷ 0 ∷ 1 ∷ 0 ∷ 1 ∷ []) (0 ∷ 0 ∷ 1 ∷ 0 ∷ 0 ∷ 1 ∷ 0 ∷ 0 ∷ []) gives reports (row 1 1 0 (0 ∷ 4 ∷ []) ∷ row 2 1 0 (3 ∷ 2 ∷ []) ∷ row 0 1 1 (5 ∷ 0 ∷ []) ∷ []) (negℤ (pos 20176))
     ∷ sitting 2 0 1 (0 ∷ 1 ∷ 0 ∷ 1 ∷ []) (0 ∷ 1 ∷ 0 ∷ 1 ∷ []) gives reports (row 0 0 0 (4 ∷ 4 ∷ []) ∷ []) (negℤ (pos 19456))

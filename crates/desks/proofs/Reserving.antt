@@ -30,6 +30,6 @@ pub reserves-fit : (s : List ℕ) → soundb s ≡ true → sum desks (reservedA
 reserves-fit s h = passed s h .reserves
 
 -- the room question is never refused by its table
-pub asked-room : (s : List ℕ) (n : ℕ) → n ≡ left (meaning s) → verdict rules (meaning s) roomQuestion ≡ answered (answer.room n)
+pub asked-room : (s : List ℕ) (n : ℕ) → n ≡ left (meaning s) → verdict rules (meaning s) roomQuestion ≡ answered (answer.contextsLeft n)
 unfolding verdict tableOf answerOf verdictOf
 asked-room s n e = rw e

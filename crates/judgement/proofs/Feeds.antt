@@ -71,13 +71,13 @@ module _ (o : Opening) (k a : ℕ) (w : Sample → List ℕ) (ρ : Room Progress
   }
 
 -- one more accepted feed before a run
-one-before : (o : Opening) (w : Sample → List ℕ) (ρ : Room Progress) (r : FeedRun) → Ran o w r → Ran o w (run.first (answered done) ρ r)
-unfolding run.first
+one-before : (o : Opening) (w : Sample → List ℕ) (ρ : Room Progress) (r : FeedRun) → Ran o w r → Ran o w (run.thenRest (answered done) ρ r)
+unfolding run.thenRest
 one-before o w ρ r (whole h e s) = whole h e s
 one-before o w ρ r (stopped h e) = stopped h e
 
-stopped-here : (o : Opening) (w : Sample → List ℕ) (ρ : Room Progress) (r : FeedRun) → o .reserve < contextsHeld (sittingFor o w) → Ran o w (run.first (refused 10) ρ r)
-unfolding run.first
+stopped-here : (o : Opening) (w : Sample → List ℕ) (ρ : Room Progress) (r : FeedRun) → o .reserve < contextsHeld (sittingFor o w) → Ran o w (run.thenRest (refused 10) ρ r)
+unfolding run.thenRest
 stopped-here o w ρ r h = stopped h refl
 
 longer-by-one : (i : Sample) (a : ℕ) (w : Sample → List ℕ) → length (push i a w i) ≡ suc (length (w i))
@@ -107,7 +107,7 @@ module _ (o : Opening) (k : ℕ) (known : ltb 1 k ≡ false) where
       go : (t : Bool) → ltb (o .reserve) held ≡ t
           → (Sits o (push i a w) (move rules ρ (feeding 0 k a)) → held ≤ o .reserve → Below (o .symbols) us → length (push i a w i) + length us ≤ longest
           → Ran o (pushed i us (push i a w)) (fedRun 0 k us (move rules ρ (feeding 0 k a))))
-          → Ran o (pushed i us (push i a w)) (run.first (verdict rules ρ (feeding 0 k a)) ρ (fedRun 0 k us (move rules ρ (feeding 0 k a))))
+          → Ran o (pushed i us (push i a w)) (run.thenRest (verdict rules ρ (feeding 0 k a)) ρ (fedRun 0 k us (move rules ρ (feeding 0 k a))))
       go true e rest =
           let past : o .reserve < held = ltb-true (o .reserve) held e in
           rw (feed-past o k a w ρ s known small short past) (stopped-here o (pushed i us (push i a w)) ρ _ (lt-of-lt-of-le past (held-pushed o i us (push i a w))))

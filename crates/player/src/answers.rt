@@ -13,15 +13,15 @@ use printing::magnitude;
 // The digits in hex of 64 bits.
 const HEX_DIGITS: usize = 16;
 
-pub fn say(text: &[u8]) {
+pub(crate) fn say(text: &[u8]) {
     io::write_all(STDOUT_FILENO, text);
 }
 
-pub fn say_number(number: u64) {
+pub(crate) fn say_number(number: u64) {
     io::print_decimal(STDOUT_FILENO, number);
 }
 
-pub fn say_score(score: i64) {
+pub(crate) fn say_score(score: i64) {
     if score < 0 {
         say(b"-");
     }
@@ -29,24 +29,24 @@ pub fn say_score(score: i64) {
 }
 
 // A refusal by its number in document 01's table.
-pub fn say_refused(number: u32) {
+pub(crate) fn say_refused(number: u32) {
     say(b"refused ");
     say_number(number as u64);
     say(b"\n");
 }
 
-pub fn say_refusal(why: Refusal) {
+pub(crate) fn say_refusal(why: Refusal) {
     say_refused(number_of(why));
 }
 
-pub fn say_verdict(verdict: Verdict) {
+pub(crate) fn say_verdict(verdict: Verdict) {
     match verdict {
         Verdict::Done => say(b"done\n"),
         Verdict::Refused(why) => say_refusal(why),
     }
 }
 
-pub fn say_room(room: RoomLeft) {
+pub(crate) fn say_room(room: RoomLeft) {
     match room {
         RoomLeft::Contexts(left) => {
             say(b"room ");
@@ -57,7 +57,7 @@ pub fn say_room(room: RoomLeft) {
     }
 }
 
-pub fn say_fed(fed: Fed) {
+pub(crate) fn say_fed(fed: Fed) {
     say(b"fed ");
     say_number(fed.accepted as u64);
     let ending = fed.ending;
@@ -70,7 +70,7 @@ pub fn say_fed(fed: Fed) {
     }
 }
 
-pub fn say_chart(answer: ChartAnswer) {
+pub(crate) fn say_chart(answer: ChartAnswer) {
     match answer {
         ChartAnswer::Answered(chart) => say_charted(chart),
         ChartAnswer::Refused(why) => say_refusal(why),

@@ -50,7 +50,7 @@ const RUN_SYMBOLS: usize = 1024;
 
 // Plays the whole script. Before the first making its calls lend all the numbers.
 // Every call goes on past its opcode; the test of that is what shows that the play ends.
-pub fn play(script: &[u8], store: &mut [u32]) {
+pub(crate) fn play(script: &[u8], store: &mut [u32]) {
     let mut at = first_digit(script, 0);
     let mut lent = store.len();
     while at < script.len() {

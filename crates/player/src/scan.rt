@@ -12,7 +12,7 @@ const LARGEST: u64 = 4294967295;
 const NO_DIGIT: u32 = 10;
 
 // The first digit from a place on; the script's end where there is none.
-pub fn first_digit(script: &[u8], at: usize) -> usize {
+pub(crate) fn first_digit(script: &[u8], at: usize) -> usize {
     let mut i = at;
     while i < script.len() {
         if digit_of(script[i]) < NO_DIGIT {
@@ -24,7 +24,7 @@ pub fn first_digit(script: &[u8], at: usize) -> usize {
 }
 
 // The next number from a place on; 0 where there is none.
-pub fn number_at(script: &[u8], at: usize) -> Number {
+pub(crate) fn number_at(script: &[u8], at: usize) -> Number {
     let mut value: u32 = 0;
     let mut i = first_digit(script, at);
     while i < script.len() {
@@ -59,7 +59,7 @@ fn with_digit(value: u32, digit: u32) -> u32 {
 }
 
 // Reads a symbol for each byte of a part, and answers the place after the last.
-pub fn symbols_at(script: &[u8], at: usize, symbols: &mut [u8]) -> usize {
+pub(crate) fn symbols_at(script: &[u8], at: usize, symbols: &mut [u8]) -> usize {
     let mut next = at;
     let mut i: usize = 0;
     while i < symbols.len() {
@@ -80,7 +80,7 @@ fn symbol_of(number: u32) -> u8 {
 }
 
 // As many numbers as are wanted, or all there are.
-pub fn within(wanted: usize, numbers: &[u32]) -> usize
+pub(crate) fn within(wanted: usize, numbers: &[u32]) -> usize
     ensures { λ r. ⌜ Counts r (now (numbers .entry)) ⌝ }
 {
     if numbers.len() < wanted {

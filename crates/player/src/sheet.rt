@@ -17,7 +17,7 @@ const BLANK: u32 = 4294967295;
 const SHEET_NUMBERS: usize = 5632;
 
 // Reads a report's numbers, and has a blank sheet for it.
-pub fn play_report(script: &[u8], at: usize, store: &[u32]) -> usize {
+pub(crate) fn play_report(script: &[u8], at: usize, store: &[u32]) -> usize {
     let desk = number_at(script, at);
     let length = number_at(script, desk.next);
     let place = number_at(script, length.next);

@@ -11,7 +11,7 @@ use Rattle.replay.specs.Room.{Making, Opening, Desk, closed, opened, Roo
 use Rattle.replay.specs.Table.{answered, NoneApplies}
 use Rattle.replay.specs.Machine.{Rules, Spare, spare, Act, opening, asking, closing, Call, openingTable, ownLines, askingTable, closingTable, tableAt, answerAt, verdict, moved, shift}
 use Rattle.replay.specs.Serial.{opens, outcomes, after, Done, called, struck, Told, Course, tell, begun, grown, joined, entered, sittings}
-use Rattle.replay.specs.Alone.{Alone, begins, goes-on, ends, latest, Stands, EachAlone, OnTheirOwn}
+use Rattle.replay.specs.Alone.{Alone, opensAlone, goes-on, ends, latest, Stands, EachAlone, OnTheirOwn}
 use Rattle.replay.proofs.Desks.{apart-sym}
 use Rattle.replay.proofs.Swap.{heard, shift-here, shift-away}
 use Rattle.replay.proofs.Reservations.{shut}
@@ -26,7 +26,7 @@ module _ (R : Rules) where
   opens-alone : (S : Spare) (d : ℕ) (D : Desk (R .State)) (o : Opening) → Passes S d D (opening o)
       → Alone R (record { act = opening o; answer = answerAt R D (opening o) } ∷ []) (moved R D (opening o))
   unfolding tableAt openingTable answerAt moved
-  opens-alone S d D o h = rw (shut D (h .1 .0)) (begins o)
+  opens-alone S d D o h = rw (shut D (h .1 .0)) (opensAlone o)
 
   -- any other accepted act goes on with the sitting that stands there
   goes-alone : (S : Spare) (d : ℕ) (D : Desk (R .State)) (ts : List (Told R)) (b : Act R) → opens R b ≡ false → Passes S d D b

@@ -12,7 +12,7 @@ use Rattle.replay.specs.Room.{Making, Opening, Desk, closed, opened, new
 use Rattle.replay.specs.Table.{refused, answered, verdictOf, NoneApplies}
 use Rattle.replay.specs.Machine.{Rules, spare, Act, opening, asking, closing, Call, atDesk, ownLines, askingTable, tableAt, tableOf, answerAt, answerOf, verdict}
 use Rattle.replay.specs.Serial.{outcomes, after, struck, Told, Course, sittings}
-use Rattle.replay.specs.Alone.{Alone, begins, goes-on, latest, Stands, asks, reached, OpenAlone, AnsweredAlone}
+use Rattle.replay.specs.Alone.{Alone, opensAlone, goes-on, latest, Stands, asks, reached, OpenAlone, AnsweredAlone}
 use Rattle.replay.proofs.Swap.{heard}
 use Rattle.replay.proofs.Reservations.{only-eight}
 use Rattle.replay.proofs.Own.{alone}
@@ -32,7 +32,7 @@ module _ (R : Rules) where
   -- an open sitting is what its own asks have made of a new one
   pub alone-reached : {ts : List (Told R)} {o : Opening} {s : R .State} → Alone R ts (opened o s) → s ≡ reached R o (asks R ts)
   unfolding reached asks
-  alone-reached (begins o) = refl
+  alone-reached (opensAlone o) = refl
   alone-reached (goes-on {ts = ts} {o = o} a q h) =
       ap (λ s. R .next o s q) (alone-reached a)
       ∙ sym (ap (foldl (R .next o) (R .fresh o)) (asks-append ts _) ∙ foldl-append (R .next o) (R .fresh o) (asks R ts) (q ∷ []))
@@ -40,7 +40,7 @@ module _ (R : Rules) where
   -- an open sitting began with its opening
   pub alone-begun : {ts : List (Told R)} {o : Opening} {s : R .State} → Alone R ts (opened o s)
       → (later : List (Told R)) × (ts ≡ record { act = opening o; answer = R .done } ∷ later)
-  alone-begun (begins o) = ([], refl)
+  alone-begun (opensAlone o) = ([], refl)
   alone-begun (goes-on {o = o} {s = s} a q h) =
       let last : List (Told R) = record { act = asking q; answer = R .answer o s q } ∷ [] in
       let b = alone-begun a in

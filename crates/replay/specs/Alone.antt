@@ -14,7 +14,7 @@ module _ (R : Rules) where
   -- `Alone ts D`: the acts and answers `ts` are those of one sitting held alone, and they leave its desk as D. It begins with
   -- its opening, each later ask is judged and answered by the sitting as its own calls have made it, and a closing ends it.
   pub data Alone : List (Told R) → Desk (R .State) → Type 0 where
-    begins : (o : Opening) → Alone (record { act = opening o; answer = R .done } ∷ []) (opened o (R .fresh o))
+    opensAlone : (o : Opening) → Alone (record { act = opening o; answer = R .done } ∷ []) (opened o (R .fresh o))
     goes-on : {ts : List (Told R)} {o : Opening} {s : R .State} → Alone ts (opened o s) → (q : R .Ask) → NoneApplies (R .lines o s q)
         → Alone (ts ++ record { act = asking q; answer = R .answer o s q } ∷ []) (opened o (R .next o s q))
     ends : {ts : List (Told R)} {o : Opening} {s : R .State} → Alone ts (opened o s) → Alone (ts ++ record { act = closing; answer = R .done } ∷ []) closed

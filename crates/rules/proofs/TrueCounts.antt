@@ -19,7 +19,7 @@ use Rattle.replay.specs.Room.{Making, Opening, Desk, closed, opened, new}
 use Rattle.replay.specs.Table.{NoneApplies}
 use Rattle.replay.specs.Machine.{Call}
 use Rattle.replay.specs.Serial.{Told, outcomes, after, struck, sittings}
-use Rattle.replay.specs.Alone.{Alone, begins, goes-on, ends, asks}
+use Rattle.replay.specs.Alone.{Alone, opensAlone, goes-on, ends, asks}
 use Rattle.replay.proofs.Reached.{asks-append, open-alone}
 use Rattle.rules.specs.Feed.{countedFrom, emptyProgress, afterFeed, notOfSitting}
 use Rattle.rules.specs.Rules.{Ask, feed, reporting, charting, rules, linesOf, nextOf}
@@ -102,7 +102,7 @@ DeskFor w (opened o p) = StandsFor o w p
 
 pub stands-alone : {ts : List (Told rules)} {D : Desk Progress} → Alone rules ts D → DeskFor (stringsOf (asks rules ts)) D
 unfolding stringsOf asks
-stands-alone (begins o) = stands-fresh o
+stands-alone (opensAlone o) = stands-fresh o
 stands-alone (goes-on {ts = ts} {o = o} {s = p} al q n) =
     subst (λ (w : Sample → List ℕ). StandsFor o w (nextOf o p q))
     (sym (ap stringsOf (asks-append rules ts _) ∙ foldl-append longer (λ i. []) (asks rules ts) (q ∷ [])))

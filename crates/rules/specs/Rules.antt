@@ -22,7 +22,7 @@ pub data Ask : Type 0 where
 -- what an accepted call answers
 pub data Answer : Type 0 where
   done : Answer
-  room : ℕ → Answer
+  contextsLeft : ℕ → Answer
   reported : Reported → Answer
   point : Chart → Answer
 
@@ -44,4 +44,4 @@ nextOf o p (reporting sheet place) = p
 nextOf o p (charting len code a) = p
 
 abbrev pub rules : Rules
-rules = record { State = Progress; Ask = Ask; Answer = Answer; done = done; room = room; fresh = emptyProgress; lines = linesOf; answer = askAnswer; next = nextOf }
+rules = record { State = Progress; Ask = Ask; Answer = Answer; done = done; room = contextsLeft; fresh = emptyProgress; lines = linesOf; answer = askAnswer; next = nextOf }

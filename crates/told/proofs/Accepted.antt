@@ -7,7 +7,7 @@ use lib.IntN.{ℤ}
 use lib.Ieee.{Float}
 use Rattle.replay.specs.Table.{answered}
 use Rattle.replay.specs.Machine.{Call, atDesk, asking, roomQuestion}
-use Rattle.rules.specs.Rules.{done, room, point, charting, rules}
+use Rattle.rules.specs.Rules.{done, contextsLeft, point, charting, rules}
 use Rattle.store.specs.Making.{Makes, refusalOf}
 use Rattle.store.specs.declared.Made.{Made}
 use Rattle.store.specs.declared.Made.the-variants as making
@@ -63,11 +63,11 @@ module _ {s t symbols : List ℕ} {d k r : ℕ} where
 
 -- ---- the room question
 module _ {s : List ℕ} {old left : ℕ} where
-  pub room-accepted : RoomTold s 0 old left → Asks s roomQuestion (answered (room left))
+  pub room-accepted : RoomTold s 0 old left → Asks s roomQuestion (answered (contextsLeft left))
   room-accepted m = go (m .answer) (m .promise) (m .number) (m .output)
     where
-      go : (x : RoomLeft) → Asks s roomQuestion (roomOf x) → 0 ≡ toldAs (roomOf x) → left ≡ leftAfter x old → Asks s roomQuestion (answered (room left))
-      go (question.Contexts n) p e o = subst (λ (k : ℕ). Asks s roomQuestion (answered (room k))) (sym o) p
+      go : (x : RoomLeft) → Asks s roomQuestion (roomOf x) → 0 ≡ toldAs (roomOf x) → left ≡ leftAfter x old → Asks s roomQuestion (answered (contextsLeft left))
+      go (question.Contexts n) p e o = subst (λ (k : ℕ). Asks s roomQuestion (answered (contextsLeft k))) (sym o) p
       go (question.Refused why) p e o = not-refused why e
 
 -- ---- a report

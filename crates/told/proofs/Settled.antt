@@ -10,7 +10,7 @@ use Rattle.replay.specs.Table.{Outcome, refused, answered}
 use Rattle.replay.specs.Machine.{Call, atDesk, asking, roomQuestion}
 use Rattle.numbers.specs.Limits.{rowWidth}
 use Rattle.rows.proofs.Written.{rows-read}
-use Rattle.rules.specs.Rules.{Answer, done, room, reported, point, charting, rules}
+use Rattle.rules.specs.Rules.{Answer, done, contextsLeft, reported, point, charting, rules}
 use Rattle.store.specs.Sound.{soundb}
 use Rattle.store.specs.Making.{refusalOf}
 use Rattle.chart.specs.declared.Chart.{Chart}
@@ -56,25 +56,25 @@ module _ {B : Type 0} where
 
   unfoldable charted : (Chart → B → B) → Answer → B → B
   charted f done old = old
-  charted f (room n) old = old
+  charted f (contextsLeft n) old = old
   charted f (reported x) old = old
   charted f (point x) old = f x old
 
 unfoldable leftIn : Answer → ℕ → ℕ
 leftIn done old = old
-leftIn (room n) old = n
+leftIn (contextsLeft n) old = n
 leftIn (reported x) old = old
 leftIn (point x) old = old
 
 unfoldable rowsIn : Answer → ℕ → ℕ
 rowsIn done old = old
-rowsIn (room n) old = old
+rowsIn (contextsLeft n) old = old
 rowsIn (reported x) old = length (x .rows)
 rowsIn (point x) old = old
 
 unfoldable scoreIn : Answer → ℤ → ℤ
 scoreIn done old = old
-scoreIn (room n) old = old
+scoreIn (contextsLeft n) old = old
 scoreIn (reported x) old = x .score
 scoreIn (point x) old = old
 

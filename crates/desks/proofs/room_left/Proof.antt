@@ -5,7 +5,7 @@ use borrow.Author.Tests.{not-true, not-false}
 use borrow.Author.Needs.{needs}
 use Rattle.replay.specs.Table.{answered}
 use Rattle.replay.specs.Machine.{roomQuestion}
-use Rattle.rules.specs.Rules.{room}
+use Rattle.rules.specs.Rules.{contextsLeft}
 use Rattle.store.specs.Sound.{soundb}
 use Rattle.calls.proofs.Settled.{asks-unsound, asks-answered}
 use Rattle.desks.proofs.Reserving.{asked-room}
@@ -27,7 +27,7 @@ left-in-requires c κs = passed c
 returns-2 : tie.Need-returns-2
 returns-2 c =
     let s = c .before .before .before .before .args .store .now in
-    asks-answered s roomQuestion (answered (room (c .left-in .result))) (passed (c .before)) (asked-room s (c .left-in .result) (c .left-in .ensures))
+    asks-answered s roomQuestion (answered (contextsLeft (c .left-in .result))) (passed (c .before)) (asked-room s (c .left-in .result) (c .left-in .ensures))
 
 pub room-left-spec : {M : Type 1} → statement M
 room-left-spec = tie.close (tie.spec sound-requires returns left-in-requires returns-2)
