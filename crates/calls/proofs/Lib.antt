@@ -1,4 +1,5 @@
 pub mod Settled
+pub mod Keeping
 pub mod Running
 pub mod RunSettled
 pub mod FewFeeds

@@ -1,6 +1,5 @@
--- The promises settle the answer and what the numbers stand for, and how a call that follows its table keeps its promise. Assumes nothing.
+-- The promises settle the answer and what the numbers stand for. Assumes nothing.
 use Prim.Native.Nat.{ℕ}
-use native.Mathlib.Omega.{arith}
 use mathlib.Core.Path.{_≡_, refl, sym, ap, subst, _∙_}
 use mathlib.Core.Bool.{Bool, true, false, cond}
 use mathlib.Core.List.{List, [], _∷_}
@@ -8,7 +7,7 @@ use lib.ListN.{length, drop}
 use Rattle.contexts.specs.Sitting.{Progress, sat}
 use Rattle.replay.specs.Room.{Desk, closed, opened, Room}
 use Rattle.replay.specs.Table.{Line, lineNumber, applies, Outcome, refused, answered, verdictOf}
-use Rattle.replay.specs.Machine.{Call, atDesk, asking, noSuchDesk, askingTable, tableAt, tableOf, answerAt, answerOf, verdict, move, shift, settle}
+use Rattle.replay.specs.Machine.{Call, atDesk, asking, noSuchDesk, askingTable, tableAt, tableOf, answerAt, answerOf, verdict}
 use Rattle.store.specs.Layout.{storeSize, room}
 use Rattle.store.specs.Sound.{soundb}
 use Rattle.store.specs.Meaning.{meaning}
@@ -101,54 +100,3 @@ reports-settled store d place o o′ before x y p q = (same, go o refl (asked-to
     go : (u : Outcome Answer) → o ≡ u → Told u → x ≡ y
     go u e (by-number n) = p .refused-stays n e ∙ sym (q .refused-stays n (sym same ∙ e))
     go u e (by-rows z) = p .written z e ∙ sym (q .written z (sym same ∙ e))
-
--- ---- ways to keep a promise
-
-not-both : (b : Bool) → b ≡ true → b ≡ false → ⊥
-not-both b e f = let z : _≡_ {A = ℕ} 0 1 = cc in omega arith
-
-module _ (before : List ℕ) (c : Call rules) where
-  pub moves-unsound : soundb before ≡ false → Moves before c (refused 1) before
-  moves-unsound f = record {
-    unsound = λ e. refl;
-    answers = λ e. absurd (not-both (soundb before) e f);
-    moves = λ e. absurd (not-both (soundb before) e f);
-    stays-sound = λ e. e;
-    refused-stays = λ n e. refl;
-    past-stays = refl;
-    length-stays = refl;
-  }
-
-  -- refused by the table: nothing is moved
-  pub moves-refused : (n : ℕ) → soundb before ≡ true → verdict rules (meaning before) c ≡ refused n → Moves before c (refused n) before
-  unfolding move settle
-  moves-refused n s v = record {
-    unsound = λ f. absurd (not-both (soundb before) s f);
-    answers = λ e. sym v;
-    moves = λ e. rw v;
-    stays-sound = λ e. e;
-    refused-stays = λ m e. refl;
-    past-stays = refl;
-    length-stays = refl;
-  }
-
-  -- accepted by the table
-  pub moves-done : (a : Answer) (after : List ℕ) → soundb before ≡ true → verdict rules (meaning before) c ≡ answered a → soundb after ≡ true
-      → meaning after ≡ shift rules (meaning before) c → drop (storeSize (room before)) after ≡ drop (storeSize (room before)) before → length after ≡ length before
-      → Moves before c (answered a) after
-  unfolding move settle
-  moves-done a after s v t m p l = record {
-    unsound = λ f. absurd (not-both (soundb before) s f);
-    answers = λ e. sym v;
-    moves = λ e. rw v m;
-    stays-sound = λ e. t;
-    refused-stays = λ n e. let z : _≡_ {A = ℕ} 0 1 = cc in absurd (omega arith);
-    past-stays = p;
-    length-stays = l;
-  }
-
-  pub asks-unsound : soundb before ≡ false → Asks before c (refused 1)
-  asks-unsound f = record { unsound = λ e. refl; answers = λ e. absurd (not-both (soundb before) e f) }
-
-  pub asks-answered : (o : Outcome Answer) → soundb before ≡ true → verdict rules (meaning before) c ≡ o → Asks before c o
-  asks-answered o s v = record { unsound = λ f. absurd (not-both (soundb before) s f); answers = λ e. sym v }

@@ -25,7 +25,7 @@ use Rattle.store.proofs.Fitting.{desk-opened, desk-closed}
 use Rattle.rules.specs.Question.{isCode, notAsked, charted}
 use Rattle.rules.specs.Rules.{Ask, charting, point, linesOf, askAnswer, rules}
 use Rattle.calls.specs.Promises.{Asks}
-use Rattle.calls.proofs.Settled.{asks-answered}
+use Rattle.calls.proofs.Keeping.{asks-answered}
 use Rattle.charting.specs.declared.Named.the-variants.{Key, NoContext}
 use Rattle.charting.specs.Naming.{named}
 use Rattle.charting.specs.Reading.{Readable}

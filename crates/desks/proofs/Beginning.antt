@@ -35,7 +35,7 @@ use Rattle.store.proofs.Fitting.{desk-opened, desk-closed}
 use Rattle.rules.specs.Feed.{emptyProgress}
 use Rattle.rules.specs.Rules.{done, rules}
 use Rattle.calls.specs.Promises.{Moves}
-use Rattle.calls.proofs.Settled.{moves-done}
+use Rattle.calls.proofs.Keeping.{moves-done}
 use Rattle.desks.specs.Changes.{Opened}
 use Rattle.desks.proofs.Reserving.{left-is}
 use Rattle.desks.proofs.Granting.{Granted, limited, granted}

@@ -29,10 +29,10 @@ use Rattle.store.specs.Sound.{deskOk, heldBy, reservedAt, keyOk, sampleOk, tabl
 use Rattle.store.specs.Meaning.{deskAt, meaning}
 use Rattle.store.proofs.Many.{sample-cong}
 use Rattle.store.proofs.Desks.{desk-stands, stands-desk, desk-shut}
-use Rattle.store.proofs.Climbing.{key-stands}
 use Rattle.store.proofs.Passing.{record-key, header-long}
 use Rattle.store.proofs.Fitting.{desk-reserved, reserved-means}
 use Rattle.store.proofs.Local.{SameDesk, same-size, same-slots, desk-stays}
+use Rattle.store.proofs.Declared.{key-stands}
 use Rattle.desks.specs.Changes.{Beside}
 
 -- a sound store s and one that has all but desk d's numbers and records

@@ -31,7 +31,7 @@ use Rattle.store.proofs.Passing.{passed, passes}
 use Rattle.store.proofs.Fitting.{desk-opened, desk-closed}
 use Rattle.rules.specs.Rules.{done, rules}
 use Rattle.calls.specs.Promises.{Moves}
-use Rattle.calls.proofs.Settled.{moves-refused, moves-done}
+use Rattle.calls.proofs.Keeping.{moves-refused, moves-done}
 use Rattle.desks.specs.Changes.{Closed}
 use Rattle.desks.proofs.Others.{Apart, with, meaning-with, reserves-with, other-desk, other-record}
 

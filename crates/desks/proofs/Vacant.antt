@@ -21,9 +21,9 @@ use Rattle.store.specs.Layout.{room, isOpen, recordsIn}
 use Rattle.store.specs.Sound.{recordOk, soundb}
 use Rattle.store.specs.Plain.{Open}
 use Rattle.store.specs.Meaning.{openingAt, progressAt, meaning}
-use Rattle.store.proofs.Climbing.{key-stands}
 use Rattle.store.proofs.Passing.{passed, record-key}
 use Rattle.store.proofs.Fitting.{desk-opened, desk-closed}
+use Rattle.store.proofs.Declared.{key-stands}
 use Rattle.rules.specs.Rules.{rules}
 use Rattle.desks.specs.Changes.{Openable}
 use Rattle.desks.proofs.Granting.{Ready, already-open}

@@ -16,7 +16,7 @@ use Rattle.store.specs.Layout.{headerSize, used, reserveAt, recordsIn}
 use Rattle.store.specs.Sound.{soundb, heldBy}
 use Rattle.rules.specs.Rules.{feed, done}
 use Rattle.calls.specs.Promises.{Moves}
-use Rattle.calls.proofs.Settled.{moves-refused, moves-done}
+use Rattle.calls.proofs.Keeping.{moves-refused, moves-done}
 use Rattle.entering.specs.FedStore.{FedStore, Judged, Found, Acceptable, recentAt}
 use Rattle.entering.proofs.Before.{rising}
 use Rattle.entering.proofs.Asking.{askable}

@@ -15,7 +15,7 @@ use Rattle.store.specs.Sound.{soundb}
 use Rattle.store.specs.Plain.{Open}
 use Rattle.rules.specs.Rules.{feed, rules}
 use Rattle.calls.specs.Promises.{Moves}
-use Rattle.calls.proofs.Settled.{moves-refused}
+use Rattle.calls.proofs.Keeping.{moves-refused}
 use Rattle.entering.specs.FedStore.{Judged}
 use Rattle.feeding.proofs.Judging.{no-such-desk, not-open, no-sample, no-symbol, sample-full}
 use Rattle.entering.proofs.Numbering.{size-number}

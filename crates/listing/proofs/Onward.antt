@@ -27,9 +27,9 @@ use Rattle.weighing.specs.Sitting.{sittingIn}
 use Rattle.weighing.specs.Visit.{Arrived}
 use Rattle.listing.specs.Plans.{wanted}
 use Rattle.listing.specs.Writing.{sheetFor, WroteAt, CanWrite}
-use Rattle.weighing.proofs.Blocks.{key-older}
 use Rattle.weighing.proofs.Cursor.{within}
 use Rattle.weighing.proofs.Steps.{pow-le, after, deeper, room, step-is, step-small, key-small, child-context}
+use Rattle.weighing.proofs.BlockParts.{key-older}
 use Rattle.listing.proofs.Sheets.{written-none, written-append, gather-next, gather-room}
 
 -- before the child at a of the context s, where d symbols are left below the children and w is wanted of them

@@ -12,8 +12,8 @@ use Rattle.records.specs.Bumped.{raised, bumpedAt, Cell, Written}
 use Rattle.records.proofs.Parts.{length-parts, cell-at, parts-set, parts-insert, parts-of-take}
 use Rattle.records.proofs.Lent.{past-lent}
 use Rattle.records.proofs.Rising.{key-at}
-use Rattle.records.proofs.Finding.{lookup-found, rank-suc}
 use Rattle.records.proofs.Bumping.{bumped-later, bumped-here}
+use Rattle.records.proofs.Ranked.{lookup-found, rank-suc}
 
 -- the record at the place p of the key is raised
 bumped-hit : (k c p : ℕ) (rs : List (List ℕ)) → rank k (keys rs) ≡ p → p < length rs → key (getD rs p []) ≡ k

@@ -2,6 +2,7 @@ pub mod Parts
 pub mod Lent
 pub mod Rising
 pub mod Finding
+pub mod Ranked
 pub mod Cells
 pub mod Bumping
 pub mod Counting

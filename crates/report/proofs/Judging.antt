@@ -20,7 +20,7 @@ use Rattle.rules.specs.Report.{Reported, report}
 use Rattle.rules.specs.Rules as sitting
 use Rattle.rules.specs.Rules.{reporting, reported, rules}
 use Rattle.calls.specs.Promises.{Asks, withRows, Reports}
-use Rattle.calls.proofs.Settled.{asks-unsound, asks-answered}
+use Rattle.calls.proofs.Keeping.{asks-unsound, asks-answered}
 
 -- ---- the table's verdict
 

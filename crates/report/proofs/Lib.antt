@@ -1,4 +1,5 @@
 pub mod Standing
+pub mod ByValue
 pub mod Judging
 pub mod Refusing
 pub mod Writing

@@ -1,12 +1,12 @@
 -- An open desk of a sound store can be weighed, and what is weighed is its sitting. Assumes nothing.
-use Prim.Native.Nat.{ℕ, _+_, _≤_, _<_}
+use Prim.Native.Nat.{ℕ, _+_, _<_}
 use native.Mathlib.Omega.{arith}
 use mathlib.Core.Path.{_≡_, refl, sym, ap, subst, fun-ext, _∙_}
 use mathlib.Core.Bool.{Bool, true, false}
 use mathlib.Core.List.{List, [], _∷_, _++_}
 use lib.ListN.{length, drop, getD, length-drop, length-map}
 use lib.Dec.{T, eqb, eqb-refl}
-use Rattle.numbers.specs.Limits.{mostSymbols, deepest, mostRoom}
+use Rattle.numbers.specs.Limits.{mostSymbols, deepest}
 use Rattle.numbers.proofs.Tests.{both}
 use Rattle.numbers.proofs.Orders.{Order, less, same, more, order}
 use Rattle.contexts.specs.Context.{isContext, begins}
@@ -38,11 +38,10 @@ use Rattle.store.proofs.Passing.{passed}
 use Rattle.store.proofs.Standing.{sound-stands}
 use Rattle.store.proofs.Fitting.{desk-opened, meaning-fits}
 use Rattle.weighing.specs.Sitting.{sizes, sittingIn, Weighable}
-use Rattle.weighing.specs.Weighs.{CanWeigh, Weighs}
-use Rattle.weighing.specs.declared.Desk.{Desk}
+use Rattle.weighing.specs.Weighs.{Weighs}
 use Rattle.weighing.specs.declared.Least.{Least}
 use Rattle.weighing.proofs.Counts.{losses-most}
-use Rattle.report.specs.Desk.{deskIn, CanReportOn, WeighedDesk}
+use Rattle.report.specs.Desk.{deskIn, WeighedDesk}
 
 -- a string begins each that it goes on as
 begins-front : (t u : List ℕ) → T (begins t (t ++ u))
@@ -144,20 +143,3 @@ module _ (s : List ℕ) (d : ℕ) (sound : soundb s ≡ true) (at-desk : Open s 
 
       priced : CostsOf (symbolsAt s d) (sizeAt s d first) (sizeAt s d second) costs
       priced = record { shared = refl; first = refl; second = refl }
-
--- ---- as the code has it: a desk by value
-
-module _ (s : List ℕ) (k : Desk) (c : CanReportOn s k) where
-  pub sized : headerSize ≤ length s
-  sized = let a = sound-stands s (c .sound) .long in omega arith
-
-  pub few-records : used s ≤ mostRoom
-  few-records = let h = sound-stands s (c .sound) in let a = h .few in let b = h .room-most in omega arith
-
-  pub can-weigh : (kept : List ℕ) → mostRoom ≤ length kept → CanWeigh k (used s) (drop headerSize s) kept
-  can-weigh kept l =
-      subst (λ (x : Desk). CanWeigh x (used s) (drop headerSize s) kept) (sym (c .is-desk))
-      (record { weighable = weighable s (k .number) (c .sound) (c .at-open); beside = let h = few-records in omega arith })
-
-  pub has-weighed : (kept : List ℕ) (r : Least) → Weighs k (used s) (drop headerSize s) kept r → WeighedDesk s (k .number) kept r
-  has-weighed kept r w = weighed-desk s (k .number) (c .sound) (c .at-open) kept r (subst (λ (x : Desk). Weighs x (used s) (drop headerSize s) kept r) (c .is-desk) w)

@@ -1,29 +1,28 @@
--- The pass reads the oldest symbol of a key only: the newer ones are those of its parent. So its test of all records is the declared one.
--- Assumes nothing.
+-- The pass reads the oldest symbol of a key only: the newer ones are those of its parent. A record that passes its test passes the
+-- declared one. Assumes nothing.
 use mathlib.Core.Path.{_≡_, refl, sym, ap, subst, _∙_}
 use mathlib.Core.List.{List, [], _∷_}
-use Prim.Native.Nat.{ℕ, zero, suc, _+_, _%_, _≤_, _<_}
+use Prim.Native.Nat.{ℕ, zero, suc, _+_, _<_}
 use native.Mathlib.Omega.{arith}
-use lib.Dec.{T, ltb, leb, eqb, ltb→lt, lt→ltb, le→leb, eqb→eq}
-use lib.ListN.{length, getD}
-use Rattle.numbers.specs.Limits.{deepest, desks}
+use lib.Dec.{T, ltb, eqb, ltb→lt, lt→ltb, eqb→eq}
+use lib.ListN.{length}
+use Rattle.numbers.specs.Limits.{desks}
 use Rattle.numbers.specs.Every.{all}
-use Rattle.numbers.proofs.Tests.{T?, bool-ext, both, left, right, or-rest, is-false}
+use Rattle.numbers.proofs.Tests.{T?, both, left, right, or-rest, is-false}
 use Rattle.numbers.proofs.Orders.{less, same, more, order, eq→eqb}
-use Rattle.numbers.proofs.Every.{all-at, all-of}
+use Rattle.numbers.proofs.Every.{all-at}
 use Rattle.contexts.specs.Context.{isContext, parentOf}
-use Rattle.contexts.specs.Keys.{keyOf, deskOf, contextOf, lenOf, weight}
+use Rattle.contexts.specs.Keys.{keyOf, deskOf, contextOf, lenOf}
 use Rattle.contexts.specs.Sitting.{Sample, first, second}
-use Rattle.contexts.proofs.Strings.{context-length}
-use Rattle.contexts.proofs.Oldest.{length-snoc, context-snoc, oldest-below}
-use Rattle.contexts.proofs.Digits.{ends-short, Ends, contextOf-within, contextOf-length, key-back, key-ends, key-length}
+use Rattle.contexts.proofs.Oldest.{length-snoc, context-snoc}
+use Rattle.contexts.proofs.Digits.{ends-short, contextOf-length, key-back}
 use Rattle.records.specs.Records.{key, lookup}
 use Rattle.records.specs.Held.{held}
 use Rattle.records.proofs.Finding.{lookup-absent, lookup-held, key-lookup}
 use Rattle.records.proofs.Counting.{total-blank}
 use Rattle.store.specs.Layout.{isOpen, symbolsAt, depthAt, totalOf}
 use Rattle.store.specs.Sound.{eachSample, keyOk, sampleOk, tableOk, parentKey, parentOk, recordOk}
-use Rattle.store.specs.Walk.{oldestOk, endsOk, keyFits, ownOk}
+use Rattle.store.specs.Walk.{oldestOk, keyFits, ownOk}
 use Rattle.store.proofs.Many.{sample-at}
 use Rattle.store.proofs.Parents.{above}
 use Rattle.store.proofs.Walking.{fitOk, own-key}
@@ -91,7 +90,7 @@ module _ (s : List ℕ) (rs : List (List ℕ)) (good : T (all (fitOk s rs) rs)) 
       let room : length (parentOf (contextOf k)) < D = omega (arith, fits .short, contextOf-length k short) in
       subst (λ (c : List ℕ). T (isContext A D c)) (sym (a .is)) (context-snoc A D (parentOf (contextOf k)) (a .symbol) parent below room)
 
-  fit-record : (r : List ℕ) → T (fitOk s rs r) → T (recordOk s rs r)
+  pub fit-record : (r : List ℕ) → T (fitOk s rs r) → T (recordOk s rs r)
   unfolding fitOk ownOk recordOk keyOk
   fit-record r t =
       let k = key r in
@@ -103,67 +102,3 @@ module _ (s : List ℕ) (rs : List (List ℕ)) (good : T (all (fitOk s rs) rs)) 
       (both (isContext (symbolsAt s (deskOf k)) (depthAt s (deskOf k)) (contextOf k)) _ (climb (lenOf k) r t refl)
       (eq→eqb (keyOf (deskOf k) (contextOf k)) k (key-back k (ends-short k (fits .ends)) (fits .ends))))))
       (both (tableOk s r) _ (right (keyFits s k) _ own) (right (ownOk s r) _ t))
-
--- ---- .. and back
-
--- what the declared test of a key tells
-pub record KeyStands (s : List ℕ) (k : ℕ) : Type 0 where
-  pub desk : deskOf k < desks
-  pub opened : T (isOpen s (deskOf k))
-  pub context : T (isContext (symbolsAt s (deskOf k)) (depthAt s (deskOf k)) (contextOf k))
-  pub back : keyOf (deskOf k) (contextOf k) ≡ k
-
-pub key-stands : (s : List ℕ) (k : ℕ) → T (keyOk s k) → KeyStands s k
-unfolding keyOk
-key-stands s k t =
-    let one = right (ltb (deskOf k) desks) _ t in
-    let two = right (isOpen s (deskOf k)) _ one in
-    let context = isContext (symbolsAt s (deskOf k)) (depthAt s (deskOf k)) (contextOf k) in
-    record {
-      desk = ltb→lt (deskOf k) desks (left (ltb (deskOf k) desks) _ t);
-      opened = left (isOpen s (deskOf k)) _ one;
-      context = left context _ two;
-      back = eqb→eq (keyOf (deskOf k) (contextOf k)) k (right context _ two);
-    }
-
--- the oldest symbol is one of the context's
-oldest-fits : (A D k : ℕ) → 1 ≤ A → T (isContext A D (contextOf k)) → lenOf k ≤ deepest → Ends k → T (oldestOk A k)
-unfolding oldestOk weight
-oldest-fits A D k some c short ends = elim (order 0 (lenOf k)) [
-  | less h ↦
-      let a = above k h short ends in
-      let low = oldest-below A D (parentOf (contextOf k)) (a .symbol) (subst (λ (x : List ℕ). T (isContext A D x)) (a .is) c) in
-      lt→ltb _ A (subst (λ (x : ℕ). x < A) (sym (a .reads)) low)
-  | same q ↦
-      let e : k % weight 0 ≡ 0 = subst (λ (l : ℕ). k % weight l ≡ l) (sym q) ends in
-      lt→ltb _ A (rw (sym q) (omega arith))
-  | more h ↦ absurd (omega arith)
-]
-
-key-fits : (s : List ℕ) (k : ℕ) → ((d : ℕ) → d < desks → T (isOpen s d) → 1 ≤ symbolsAt s d) → T (keyOk s k) → T (keyFits s k)
-unfolding keyFits endsOk
-key-fits s k some t =
-    let g = key-stands s k t in
-    let d = deskOf k in
-    let c = contextOf k in
-    let within = contextOf-within k in
-    let len : lenOf k ≡ length c = subst (λ (m : ℕ). lenOf m ≡ length c) (g .back) (key-length d c within) in
-    let ends : Ends k = subst (λ (l : ℕ). k % weight l ≡ l) (sym len) (subst (λ (m : ℕ). m % weight (length c) ≡ length c) (g .back) (key-ends d c within)) in
-    let short = context-length (symbolsAt s d) (depthAt s d) c (g .context) in
-    both (ltb d desks) _ (lt→ltb d desks (g .desk))
-    (both (isOpen s d) _ (g .opened)
-    (both (leb (lenOf k) (depthAt s d)) _ (le→leb (lenOf k) (depthAt s d) (omega arith))
-    (both (oldestOk (symbolsAt s d) k) _ (oldest-fits (symbolsAt s d) (depthAt s d) k (some d (g .desk) (g .opened)) (g .context) (ends-short k ends) ends)
-    (eq→eqb (k % weight (lenOf k)) (lenOf k) ends))))
-
-record-fit : (s : List ℕ) (rs : List (List ℕ)) → ((d : ℕ) → d < desks → T (isOpen s d) → 1 ≤ symbolsAt s d) → (r : List ℕ) → T (recordOk s rs r) → T (fitOk s rs r)
-unfolding fitOk ownOk recordOk
-record-fit s rs some r t =
-    let rest = right (keyOk s (key r)) _ t in
-    both (ownOk s r) _ (both (keyFits s (key r)) _ (key-fits s (key r) some (left (keyOk s (key r)) _ t)) (left (tableOk s r) _ rest)) (right (tableOk s r) _ rest)
-
--- THEOREM. Where every open desk has an alphabet, the pass's test of all records is the declared one
-pub fits-are : (s : List ℕ) (rs : List (List ℕ)) → ((d : ℕ) → d < desks → T (isOpen s d) → 1 ≤ symbolsAt s d) → all (fitOk s rs) rs ≡ all (recordOk s rs) rs
-fits-are s rs some = bool-ext _ _
-    (λ t. all-of (recordOk s rs) rs [] (λ i h. fit-record s rs t (getD rs i []) (all-at (fitOk s rs) rs i [] t h)))
-    (λ t. all-of (fitOk s rs) rs [] (λ i h. record-fit s rs some (getD rs i []) (all-at (recordOk s rs) rs i [] t h)))

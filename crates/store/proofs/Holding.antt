@@ -27,9 +27,10 @@ use Rattle.store.specs.Layout.{symbolsAt, depthAt, recordsIn, totalOf}
 use Rattle.store.specs.Sound.{heldBy, recordOk, soundb}
 use Rattle.store.specs.Plain.{Open, ContextAt, recordFor, totalAt}
 use Rattle.store.specs.Meaning.{sittingAt}
-use Rattle.store.proofs.Climbing.{key-stands, table-seen}
+use Rattle.store.proofs.Climbing.{table-seen}
 use Rattle.store.proofs.Passing.{Passed, passed, record-key, record-table, desk-passed, context-within, context-counts}
 use Rattle.store.proofs.Totalling.{total-keys}
+use Rattle.store.proofs.Declared.{key-stands}
 
 -- no count where there is no context
 pub total-outside : (s : List ℕ) (d : ℕ) (i : Sample) (c : List ℕ) → (ContextAt s d c → ⊥) → totalIn (sittingAt s d) i c ≡ 0

@@ -3,6 +3,7 @@ pub mod Parents
 pub mod Marks
 pub mod Walking
 pub mod Climbing
+pub mod Declared
 pub mod Desks
 pub mod Whole
 pub mod Parts

@@ -23,8 +23,9 @@ use Rattle.store.specs.Sound.{below, heldBy, parentKey, recordOk, soundb
 use Rattle.store.specs.Plain.{Open, ContextAt, recordFor, totalAt, Counts, nthRecord, Sound}
 use Rattle.store.proofs.Parts.{records-length}
 use Rattle.store.proofs.Desks.{DeskStands}
-use Rattle.store.proofs.Climbing.{key-stands, table-seen, parent-seen}
+use Rattle.store.proofs.Climbing.{table-seen, parent-seen}
 use Rattle.store.proofs.Passing.{Passed, passed, record-key, record-table, record-parents, desk-passed, context-counts, absent, present, at}
+use Rattle.store.proofs.Declared.{key-stands}
 
 -- ---- the sample that has seen a context has seen what begins it
 

@@ -18,7 +18,7 @@ use Rattle.store.specs.Sound.{frameOk, deskOk, heldBy, reservedAt, recor
 use Rattle.store.specs.Walk.{walked, start, passb}
 use Rattle.store.proofs.Desks.{desk-stands}
 use Rattle.store.proofs.Walking.{walk-is}
-use Rattle.store.proofs.Climbing.{fits-are}
+use Rattle.store.proofs.Declared.{fits-are}
 
 -- the pass is the records' test and the desks'
 pass-both : (s : List ℕ) (rs : List (List ℕ)) → passb s rs ≡ recordsOk s rs && every desks (deskOk s rs)

@@ -27,8 +27,8 @@ use Rattle.estimate.proofs.Unseen.{Flat, unseen-losses, unseen-flat}
 use Rattle.records.specs.Records.{width, records, countsOf, lookup}
 use Rattle.records.specs.Held.{held, recordAt, countTable}
 use Rattle.records.proofs.Parts.{part-at, wide-records}
-use Rattle.records.proofs.Finding.{lookup-found}
 use Rattle.records.proofs.Counting.{length-counts, count-absent, wide-lookup}
+use Rattle.records.proofs.Ranked.{lookup-found}
 use Rattle.weighing.specs.declared.Desk.{Desk}
 use Rattle.weighing.specs.Sitting.{sittingIn, Weighable}
 use Rattle.weighing.specs.Visit.{mostLoss, Small}

@@ -23,7 +23,8 @@ use Rattle.records.proofs.Finding.{held-none}
 use Rattle.weighing.specs.declared.Desk.{Desk}
 use Rattle.weighing.specs.Sitting.{Weighable}
 use Rattle.weighing.specs.Visit.{endOf}
-use Rattle.weighing.proofs.Blocks.{digits-room, block-key, key-block, begins-split, begins-self, begins-append, context-split, context-older, end-is, end-older, key-older, later-child}
+use Rattle.weighing.proofs.Blocks.{digits-room, block-key, key-block, end-is}
+use Rattle.weighing.proofs.BlockParts.{begins-split, begins-self, begins-append, context-split, context-older, end-older, key-older, later-child}
 
 -- ---- ranks
 

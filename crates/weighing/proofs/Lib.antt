@@ -1,4 +1,5 @@
 pub mod Blocks
+pub mod BlockParts
 pub mod Cursor
 pub mod Standing
 pub mod Flat

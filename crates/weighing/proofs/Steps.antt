@@ -16,7 +16,7 @@ use Rattle.weighing.specs.declared.Desk.{Desk}
 use Rattle.weighing.specs.declared.Context.{Context}
 use Rattle.weighing.specs.Visit.{Arrived}
 use Rattle.weighing.proofs.Cursor.{within, end-within}
-use Rattle.weighing.proofs.Blocks.{context-older}
+use Rattle.weighing.proofs.BlockParts.{context-older}
 
 pub pow-le : (a b : ℕ) → a ≤ b → 8 ^ a ≤ 8 ^ b
 pow-le a zero h = let e : a ≡ 0 = omega arith in rw e (omega arith)

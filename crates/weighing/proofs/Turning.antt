@@ -27,7 +27,7 @@ use Rattle.weighing.specs.Trees.{leastAt, membersAt}
 use Rattle.weighing.specs.Visit.{endOf, Arrived, CanVisit, Marked, Apart, Visited, mostLoss, LeafOf, SumFits, CanAdd, ChildOf, CanAddUnseen}
 use Rattle.weighing.proofs.Cursor.{turnKey, within, turn-at}
 use Rattle.records.proofs.Rising.{rank-mono}
-use Rattle.weighing.proofs.Blocks.{begins-self, block-key, key-older}
+use Rattle.weighing.proofs.Blocks.{block-key}
 use Rattle.weighing.proofs.Flat.{least-le, members-few}
 use Rattle.weighing.proofs.Counts.{losses-most}
 use Rattle.weighing.proofs.Choosing.{sum-of, fits-by}
@@ -35,6 +35,7 @@ use Rattle.weighing.proofs.Steps as steps
 use Rattle.weighing.proofs.Steps.{pow-le}
 use Rattle.weighing.proofs.Marks.{marked-on, apart-on}
 use Rattle.weighing.proofs.Visiting.{stands, bare-small, answer-absent}
+use Rattle.weighing.proofs.BlockParts.{begins-self, key-older}
 
 -- before the child at a of the context s, which stands at place p; d symbols are left below the children
 pub record Turn (k : Desk) (n : ℕ) (l : List ℕ) (s : List ℕ) (d p step a child : ℕ) (old cur : List ℕ) (children : Weighed) : Type 0 where

@@ -21,7 +21,7 @@ use Rattle.estimate.proofs.Unseen.{Flat}
 use Rattle.records.specs.Records.{width, records, keys}
 use Rattle.records.specs.Held.{rank, held, recordAt, countTable, Rising, Standing, Placed}
 use Rattle.records.proofs.Rising.{rank-within}
-use Rattle.records.proofs.Finding.{held-lost}
+use Rattle.records.proofs.Ranked.{held-lost}
 use Rattle.weighing.specs.declared.Desk.{Desk}
 use Rattle.weighing.specs.declared.Context.{Context}
 use Rattle.weighing.specs.declared.Weighed.{Weighed}

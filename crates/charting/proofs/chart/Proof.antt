@@ -13,7 +13,7 @@ use Rattle.store.specs.Plain.{Open}
 use Rattle.store.proofs.Passing.{passed}
 use Rattle.store.proofs.Standing.{sound-stands}
 use Rattle.rules.specs.Rules.{charting}
-use Rattle.calls.proofs.Settled.{asks-unsound}
+use Rattle.calls.proofs.Keeping.{asks-unsound}
 use Rattle.charting.specs.Naming.{named}
 use Rattle.charting.proofs.Verdicts.{asks-no-desk, asks-shut, asks-symbol, asks-length, Asked, asks-code, key-readable, asks-chart}
 use Rattle.charting.proofs.chart.Statement.{statement}

@@ -13,7 +13,7 @@ use Rattle.store.specs.Plain.{Open}
 use Rattle.store.specs.Sound.{soundb}
 use Rattle.store.specs.Meaning.{meaning}
 use Rattle.store.proofs.Passing.{header-long}
-use Rattle.calls.proofs.Settled.{moves-unsound, moves-refused}
+use Rattle.calls.proofs.Keeping.{moves-unsound, moves-refused}
 use Rattle.desks.proofs.Granting.{no-desk, outside}
 use Rattle.desks.proofs.Vacant.{shut-there, open-there}
 use Rattle.desks.proofs.open.Statement.{statement}

@@ -6,7 +6,7 @@ use Rattle.replay.specs.Machine.{atDesk, opening}
 use Rattle.replay.specs.Room.{naming}
 use Rattle.store.specs.Meaning.{meaning}
 use Rattle.store.proofs.Passing.{header-long}
-use Rattle.calls.proofs.Settled.{moves-refused}
+use Rattle.calls.proofs.Keeping.{moves-refused}
 use Rattle.desks.proofs.Granting.{zero-reserved, above-room, above-left}
 use Rattle.desks.proofs.Vacant.{ready-there, room-made}
 use Rattle.desks.proofs.Beginning.{opened-moves}

@@ -1,7 +1,7 @@
 -- `feeding::feed` meets its contract. Assumes nothing.
 use mathlib.Core.Path.{sym, _∙_}
 use borrow.Author.Needs.{needs}
-use Rattle.calls.proofs.Settled.{moves-unsound}
+use Rattle.calls.proofs.Keeping.{moves-unsound}
 use Rattle.feeding.proofs.feed.Statement.{statement}
 use Rattle.feeding.proofs.feed.Tie as tie
 

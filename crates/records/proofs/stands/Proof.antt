@@ -2,9 +2,9 @@
 use mathlib.Core.Path.{sym}
 use native.Mathlib.Omega.{arith}
 use borrow.Author.Needs.{needs}
-use Rattle.records.proofs.Finding.{held-tested, held-lost}
 use Rattle.records.proofs.stands.Statement.{statement}
 use Rattle.records.proofs.stands.Tie as tie
+use Rattle.records.proofs.Ranked.{held-tested, held-lost}
 
 mul-result : tie.Need-mul-result
 mul-result c = search needs

@@ -5,9 +5,10 @@ use borrow.Author.Needs.{needs}
 use Rattle.records.specs.Records.{width, records}
 use Rattle.records.specs.Held.{countTable}
 use Rattle.records.proofs.Parts.{part-at}
-use Rattle.records.proofs.Finding.{lookup-found, lookup-absent, held-lost}
+use Rattle.records.proofs.Finding.{lookup-absent}
 use Rattle.records.proofs.table_of.Statement.{statement}
 use Rattle.records.proofs.table_of.Tie as tie
+use Rattle.records.proofs.Ranked.{lookup-found, held-lost}
 
 place-of-requires : tie.Need-place-of-requires
 place-of-requires c κs = search needs

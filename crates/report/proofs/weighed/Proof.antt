@@ -7,9 +7,9 @@ use borrow.Author.Needs.{needs}
 use Rattle.records.proofs.Lent.{tail-lent}
 use Rattle.store.specs.Layout.{headerSize, used}
 use Rattle.weighing.specs.Weighs.{Weighs}
-use Rattle.report.proofs.Standing.{sized, can-weigh, has-weighed}
 use Rattle.report.proofs.weighed.Statement.{statement}
 use Rattle.report.proofs.weighed.Tie as tie
+use Rattle.report.proofs.ByValue.{sized, can-weigh, has-weighed}
 
 start : tie.After-shared-slice-known3 → tie.Start
 start c = c .before .before .before .before

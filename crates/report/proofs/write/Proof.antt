@@ -9,10 +9,10 @@ use Rattle.numbers.specs.Limits.{rowWidth}
 use Rattle.records.proofs.Lent.{tail-lent}
 use Rattle.store.specs.Layout.{headerSize, used}
 use Rattle.listing.specs.Writing.{Listed}
-use Rattle.report.proofs.Standing.{sized}
 use Rattle.report.proofs.Writing.{can-write, has-written}
 use Rattle.report.proofs.write.Statement.{statement}
 use Rattle.report.proofs.write.Tie as tie
+use Rattle.report.proofs.ByValue.{sized}
 
 shared-slice-read-used : tie.Need-shared-slice-read-used
 shared-slice-read-used c = let s = c .before .before .before .before .before in let h = sized (s .args .store .now) (s .args .desk) (s .pre .1) in omega arith

@@ -8,10 +8,10 @@ use Rattle.contexts.specs.Keys.{deskOf}
 use Rattle.records.specs.Records.{key}
 use Rattle.store.specs.Walk.{seenMark}
 use Rattle.store.proofs.Parts.{lent, record-lent, record-long}
-use Rattle.soundness.proofs.Turn.{Turn, turn-start, turn-next, turn-bad, turn-end}
 use Rattle.store.proofs.Walking.{step-desk}
 use Rattle.soundness.proofs.pass.Statement.{statement}
 use Rattle.soundness.proofs.pass.Tie as tie
+use Rattle.soundness.proofs.Turn.{Turn, turn-start, turn-next, turn-bad, turn-end}
 
 abbrev Inv-loop : tie.InvT-loop
 Inv-loop store body many p₀ q₀ tally₀ lo₀ i₀ p q tally lo i = Turn store body many p q tally lo i
