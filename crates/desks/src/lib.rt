@@ -11,7 +11,7 @@ ghost use Rattle.store.specs.Sound.{soundb};
 ghost use Rattle.store.specs.Meaning.{meaning};
 ghost use Rattle.calls.specs.Refusals.{outcomeOf, roomOf};
 ghost use Rattle.calls.specs.Promises.{Moves, Asks};
-ghost use Rattle.desks.specs.Changes.{freshDesk, Openable, Opened, Closed};
+ghost use Rattle.changes.specs.Changes.{freshDesk, Openable, Opened, Closed};
 use calls::Refusal;
 use calls::RoomLeft;
 use calls::Verdict;

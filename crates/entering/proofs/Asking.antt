@@ -31,10 +31,11 @@ use Rattle.store.specs.Sound.{soundb, heldBy}
 use Rattle.store.specs.Plain.{Open, recordFor, nthRecord}
 use Rattle.store.proofs.Parts.{records-length}
 use Rattle.store.proofs.Standing.{sound-stands}
-use Rattle.entering.specs.FedStore.{Found, Spanned, Acceptable, recentAt}
-use Rattle.entering.proofs.Recent.{recent-within}
-use Rattle.entering.proofs.Before.{rising, standing}
-use Rattle.entering.proofs.Filling.{room-missing}
+use Rattle.changes.specs.FedStore.{Acceptable, recentAt}
+use Rattle.entering.specs.Seeking.{Found, Spanned}
+use Rattle.changes.proofs.Recent.{recent-within}
+use Rattle.changes.proofs.Before.{rising, standing}
+use Rattle.changes.proofs.Filling.{room-missing}
 
 pub askable : (s : List ℕ) → soundb s ≡ true → (d : ℕ) → Open s d → (i : Sample) → Askable d (recentAt s d i) (used s) (drop headerSize s)
 askable s h d o i = record { standing = standing s h; desk = o .desk; context = recent-within s h d o i }

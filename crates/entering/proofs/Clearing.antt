@@ -25,10 +25,10 @@ use Rattle.store.specs.Layout.{recordsIn}
 use Rattle.store.specs.Sound.{soundb}
 use Rattle.store.specs.Plain.{Open, ContextAt, totalAt}
 use Rattle.store.proofs.Standing.{sound-stands}
-use Rattle.entering.specs.FedStore.{recentAt}
-use Rattle.entering.proofs.Recent.{recent-within, within}
-use Rattle.entering.proofs.Before.{held-seen, absent-total}
-use Rattle.entering.proofs.Owning.{owned, owned-desk}
+use Rattle.changes.specs.FedStore.{recentAt}
+use Rattle.changes.proofs.Recent.{recent-within, within}
+use Rattle.changes.proofs.Before.{held-seen, absent-total}
+use Rattle.changes.proofs.Owning.{owned, owned-desk}
 
 -- what stands in row order between a context and one that begins with it begins with it too
 begins-between : (s t r : List ℕ) → T (begins s r) → T (precedes s t) → T (precedes t r) → T (begins s t)

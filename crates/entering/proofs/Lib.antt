@@ -1,15 +1,4 @@
-pub mod Recent
-pub mod Before
-pub mod Counted
-pub mod Owning
 pub mod Clearing
-pub mod Header
-pub mod Filling
-pub mod Sets
-pub mod Numbering
 pub mod Copying
-pub mod Noting
-pub mod Heading
-pub mod Placing
 pub mod Asking
 pub mod Writing

@@ -15,13 +15,13 @@ use Rattle.recording.proofs.Settling.{written-count}
 use Rattle.store.specs.Layout.{headerSize, used, deskStart, sizeField, recentField, recordsIn}
 use Rattle.store.proofs.Standing.{sound-stands}
 use Rattle.store.proofs.Passing.{header-long}
-use Rattle.entering.specs.FedStore.{FedStore, Acceptable, recentAt, recordsFed}
-use Rattle.entering.specs.Noted.{noted, Places}
-use Rattle.entering.proofs.Numbering.{size-number, recent-number}
-use Rattle.entering.proofs.Filling.{room-enough}
+use Rattle.changes.specs.FedStore.{FedStore, Acceptable, recentAt, recordsFed}
+use Rattle.changes.specs.Noted.{noted, Places}
+use Rattle.changes.proofs.Numbering.{size-number, recent-number}
+use Rattle.changes.proofs.Filling.{room-enough}
 use Rattle.entering.proofs.Clearing.{clear-from}
-use Rattle.entering.proofs.Heading.{Headed, places}
-use Rattle.entering.proofs.Placing.{headed, fed-store}
+use Rattle.changes.proofs.Heading.{Headed, places}
+use Rattle.changes.proofs.Placing.{headed, fed-store}
 use Rattle.entering.proofs.Asking.{feedable}
 
 module _ (s : List ℕ) (d k a : ℕ) (p : Acceptable s d (sampleOf k) a) (one : k ≤ 1) (r : List ℕ) (e : r ≡ recentAt s d (sampleOf k)) where

@@ -1,2 +1,1 @@
-pub mod FedStore
-pub mod Noted
+pub mod Seeking

@@ -17,13 +17,14 @@ use Rattle.store.specs.Sound.{soundb, heldBy}
 use Rattle.rules.specs.Rules.{feed, done}
 use Rattle.calls.specs.Promises.{Moves}
 use Rattle.calls.proofs.Keeping.{moves-refused, moves-done}
-use Rattle.entering.specs.FedStore.{FedStore, Judged, Found, Acceptable, recentAt}
-use Rattle.entering.proofs.Before.{rising}
+use Rattle.changes.specs.FedStore.{FedStore, Judged, Acceptable, recentAt}
+use Rattle.entering.specs.Seeking.{Found}
+use Rattle.changes.proofs.Before.{rising}
 use Rattle.entering.proofs.Asking.{askable}
 use Rattle.entering.proofs.Clearing.{clear-from}
-use Rattle.feeding.proofs.Sounding.{fed-sound}
-use Rattle.feeding.proofs.Moving.{fed-meaning}
-use Rattle.feeding.proofs.Judging.{past-reservation, accepted}
+use Rattle.changes.proofs.Sounding.{fed-sound}
+use Rattle.changes.proofs.Moving.{fed-meaning}
+use Rattle.changes.proofs.Judging.{past-reservation, accepted}
 
 -- the recent symbols of a feed that is judged
 module _ (s : List ℕ) (d k a : ℕ) (j : Judged s d k a) (r : List ℕ) (is-recent : r ≡ recentAt s d (sampleOf k)) where

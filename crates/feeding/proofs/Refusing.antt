@@ -16,9 +16,9 @@ use Rattle.store.specs.Plain.{Open}
 use Rattle.rules.specs.Rules.{feed, rules}
 use Rattle.calls.specs.Promises.{Moves}
 use Rattle.calls.proofs.Keeping.{moves-refused}
-use Rattle.entering.specs.FedStore.{Judged}
-use Rattle.feeding.proofs.Judging.{no-such-desk, not-open, no-sample, no-symbol, sample-full}
-use Rattle.entering.proofs.Numbering.{size-number}
+use Rattle.changes.specs.FedStore.{Judged}
+use Rattle.changes.proofs.Judging.{no-such-desk, not-open, no-sample, no-symbol, sample-full}
+use Rattle.changes.proofs.Numbering.{size-number}
 
 pub opened : (s : List ℕ) (d x : ℕ) → d < desks → x ≡ field s d 0 → x ≡ 1 → Open s d
 opened s d x l e q = record { desk = l; opened = eq→eqb (field s d 0) 1 (sym e ∙ q) }

@@ -7,7 +7,7 @@ ghost use Rattle.store.specs.Sound.{soundb};
 ghost use Rattle.rules.specs.Rules.{feed};
 ghost use Rattle.calls.specs.Refusals.{outcomeOf, endingOf};
 ghost use Rattle.calls.specs.Promises.{Moves};
-ghost use Rattle.entering.specs.FedStore.{Judged, recentAt};
+ghost use Rattle.changes.specs.FedStore.{Judged, recentAt};
 ghost use Rattle.calls.specs.Run.{Runs};
 use calls::Ending;
 use calls::Fed;

@@ -11,7 +11,7 @@ use Rattle.store.specs.Layout.{field}
 use Rattle.store.specs.Sound.{soundb}
 use Rattle.store.proofs.Passing.{header-long}
 use Rattle.calls.proofs.Keeping.{moves-unsound}
-use Rattle.desks.proofs.Shutting.{close-no-desk, close-not-open, closed-moves}
+use Rattle.changes.proofs.Shutting.{close-no-desk, close-not-open, closed-moves}
 use Rattle.desks.proofs.close.Statement.{statement}
 use Rattle.desks.proofs.close.Tie as tie
 

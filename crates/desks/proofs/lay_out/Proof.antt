@@ -6,7 +6,7 @@ use native.Mathlib.Omega.{arith}
 use lib.ListN.{length, drop, replicate, length-set}
 use borrow.Author.Fill.{fill-more}
 use Rattle.store.specs.Layout.{deskNumbers}
-use Rattle.desks.proofs.Laying.{laid-out}
+use Rattle.changes.proofs.Laying.{laid-out}
 use Rattle.desks.proofs.lay_out.Statement.{statement}
 use Rattle.desks.proofs.lay_out.Tie as tie
 

@@ -4,7 +4,7 @@ use Prim.Native.Nat.{ℕ, _-_}
 use native.Mathlib.Omega.{arith}
 use Rattle.store.specs.Layout.{room}
 use Rattle.store.proofs.Passing.{header-long}
-use Rattle.desks.proofs.Reserving.{left-is, room-small, reserves-fit}
+use Rattle.changes.proofs.Leaving.{left-is, room-small, reserves-fit}
 use Rattle.desks.proofs.left_in.Statement.{statement}
 use Rattle.desks.proofs.left_in.Tie as tie
 

@@ -14,8 +14,8 @@ use Rattle.store.specs.Sound.{soundb}
 use Rattle.store.specs.Meaning.{meaning}
 use Rattle.store.proofs.Passing.{header-long}
 use Rattle.calls.proofs.Keeping.{moves-unsound, moves-refused}
-use Rattle.desks.proofs.Granting.{no-desk, outside}
-use Rattle.desks.proofs.Vacant.{shut-there, open-there}
+use Rattle.changes.proofs.Granting.{no-desk, outside}
+use Rattle.changes.proofs.Vacant.{shut-there, open-there}
 use Rattle.desks.proofs.open.Statement.{statement}
 use Rattle.desks.proofs.open.Tie as tie
 

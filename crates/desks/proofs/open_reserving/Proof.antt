@@ -7,9 +7,9 @@ use Rattle.replay.specs.Room.{naming}
 use Rattle.store.specs.Meaning.{meaning}
 use Rattle.store.proofs.Passing.{header-long}
 use Rattle.calls.proofs.Keeping.{moves-refused}
-use Rattle.desks.proofs.Granting.{zero-reserved, above-room, above-left}
-use Rattle.desks.proofs.Vacant.{ready-there, room-made}
-use Rattle.desks.proofs.Beginning.{opened-moves}
+use Rattle.changes.proofs.Granting.{zero-reserved, above-room, above-left}
+use Rattle.changes.proofs.Vacant.{ready-there, room-made}
+use Rattle.changes.proofs.Beginning.{opened-moves}
 use Rattle.desks.proofs.open_reserving.Statement.{statement}
 use Rattle.desks.proofs.open_reserving.Tie as tie
 

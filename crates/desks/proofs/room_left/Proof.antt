@@ -8,7 +8,7 @@ use Rattle.replay.specs.Machine.{roomQuestion}
 use Rattle.rules.specs.Rules.{contextsLeft}
 use Rattle.store.specs.Sound.{soundb}
 use Rattle.calls.proofs.Keeping.{asks-unsound, asks-answered}
-use Rattle.desks.proofs.Reserving.{asked-room}
+use Rattle.changes.proofs.Leaving.{asked-room}
 use Rattle.desks.proofs.room_left.Statement.{statement}
 use Rattle.desks.proofs.room_left.Tie as tie
 

@@ -1,7 +1,7 @@
 -- `desks::set_up` meets its contract. Assumes nothing.
 use borrow.Author.Needs.{needs}
 use Rattle.replay.specs.Room.{naming}
-use Rattle.desks.proofs.Laying.{opened-now}
+use Rattle.changes.proofs.Laying.{opened-now}
 use Rattle.desks.proofs.set_up.Statement.{statement}
 use Rattle.desks.proofs.set_up.Tie as tie
 

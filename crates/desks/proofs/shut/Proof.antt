@@ -6,7 +6,7 @@ use lib.ListN.{length, length-set}
 use borrow.Author.Needs.{needs}
 use Rattle.store.specs.Layout.{used}
 use Rattle.store.proofs.Passing.{passed, header-long}
-use Rattle.desks.proofs.Removal.{lent, back, removable, few-left, back-long, closed-now}
+use Rattle.changes.proofs.Removal.{lent, back, removable, few-left, back-long, closed-now}
 use Rattle.desks.proofs.shut.Statement.{statement}
 use Rattle.desks.proofs.shut.Tie as tie
 

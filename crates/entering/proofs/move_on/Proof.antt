@@ -2,7 +2,7 @@
 use native.Mathlib.Omega.{arith}
 use lib.ListN.{length-set}
 use borrow.Author.Needs.{needs}
-use Rattle.entering.proofs.Noting.{moved-on}
+use Rattle.changes.proofs.Noting.{moved-on}
 use Rattle.entering.proofs.move_on.Statement.{statement}
 use Rattle.entering.proofs.move_on.Tie as tie
 

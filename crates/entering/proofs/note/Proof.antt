@@ -4,7 +4,7 @@ use mathlib.Core.Path.{ap, _∙_}
 use lib.ListN.{length, length-set}
 use lib.Seq.{getD-set-other}
 use borrow.Author.Needs.{needs}
-use Rattle.entering.proofs.Noting.{noted-back, noted-length}
+use Rattle.changes.proofs.Noting.{noted-back, noted-length}
 use Rattle.entering.proofs.note.Statement.{statement}
 use Rattle.entering.proofs.note.Tie as tie
 

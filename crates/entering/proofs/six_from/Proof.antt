@@ -1,7 +1,7 @@
 -- `entering::six_from` meets its contract. Assumes nothing.
 use mathlib.Core.Path.{sym}
 use borrow.Author.Needs.{needs}
-use Rattle.entering.proofs.Sets.{six-read}
+use Rattle.changes.proofs.Sets.{six-read}
 use Rattle.entering.proofs.six_from.Statement.{statement}
 use Rattle.entering.proofs.six_from.Tie as tie
 

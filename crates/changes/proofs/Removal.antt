@@ -17,7 +17,7 @@ use Rattle.recording.proofs.Settling.{removed-count}
 use Rattle.store.specs.Layout.{headerSize, storeSize, deskStart, room, used, recordsIn}
 use Rattle.store.specs.Sound.{soundb}
 use Rattle.store.proofs.Passing.{passed, header-long}
-use Rattle.desks.specs.Changes.{Closed}
+use Rattle.changes.specs.Changes.{Closed}
 
 -- the part that is lent, and all that is there when it has come back as ys
 abbrev pub lent : List ℕ → List ℕ

@@ -5,7 +5,7 @@ use lib.ListN.{length, take, drop, getD, set}
 use lib.Seq.{sets}
 use Rattle.numbers.specs.Limits.{deepest}
 use Rattle.store.specs.Layout.{headerSize}
-use Rattle.entering.specs.FedStore.{shifted}
+use Rattle.changes.specs.FedStore.{shifted}
 
 -- m records are in use, the length at place z is one more, and symbol a is the first of the six recent symbols from place y on
 abbrev pub noted : ℕ → ℕ → ℕ → ℕ → List ℕ → List ℕ

@@ -14,7 +14,7 @@ use Rattle.store.specs.Sound.{soundb}
 use Rattle.store.specs.Plain.{Open, ContextAt}
 use Rattle.store.proofs.Passing.{passed, desk-passed}
 use Rattle.store.proofs.Fitting.{sitting-fits}
-use Rattle.entering.specs.FedStore.{recentAt, shifted}
+use Rattle.changes.specs.FedStore.{recentAt, shifted}
 
 module _ (s : List ℕ) (h : soundb s ≡ true) (d : ℕ) (o : Open s d) where
   pub recent-context : (i : Sample) → ContextAt s d (recentAt s d i)

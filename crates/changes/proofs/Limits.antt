@@ -10,7 +10,7 @@ use Rattle.replay.specs.Room.{closed, Room, left, naming}
 use Rattle.replay.specs.Table.{refused, answered}
 use Rattle.replay.specs.Machine.{opening, atDesk, outsideLimits, verdict}
 use Rattle.rules.specs.Rules.{done, rules}
-use Rattle.desks.proofs.Granting.{Ready, not-outside, outside, above-room, above-left, granted}
+use Rattle.changes.proofs.Granting.{Ready, not-outside, outside, above-room, above-left, granted}
 
 module _ (ρ : Room Progress) (d : ℕ) (near : d < desks) (shut : ρ .at d ≡ closed) (A : ℕ) (few : fewestSymbols ≤ A) (most : A ≤ mostSymbols) where
   ready : (D r : ℕ) → D ≤ deepest → Ready ρ d (naming A D r)

@@ -18,8 +18,8 @@ use Rattle.store.specs.Sound.{soundb}
 use Rattle.store.specs.Plain.{Open, ContextAt}
 use Rattle.store.proofs.Parts.{records-length}
 use Rattle.store.proofs.Standing.{sound-stands}
-use Rattle.entering.specs.FedStore.{recentAt, recordsFed}
-use Rattle.entering.proofs.Recent.{recent-context, within}
+use Rattle.changes.specs.FedStore.{recentAt, recordsFed}
+use Rattle.changes.proofs.Recent.{recent-context, within}
 
 pub record Owned (s : List ℕ) (k : ℕ) : Type 0 where
   pub desk : ℕ

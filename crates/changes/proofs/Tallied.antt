@@ -19,12 +19,12 @@ use Rattle.store.specs.Sound.{heldBy}
 use Rattle.store.specs.Plain.{Open, recordFor, totalAt}
 use Rattle.store.proofs.Parts.{records-length}
 use Rattle.store.proofs.Passing.{passed, desk-passed}
-use Rattle.entering.specs.FedStore.{FedStore, Acceptable, recentAt}
-use Rattle.entering.proofs.Recent.{recent-within}
-use Rattle.entering.proofs.Before.{rising, wide, held-seen}
-use Rattle.entering.proofs.Counted.{total-fed}
-use Rattle.entering.proofs.Owning.{Owned, owned-fed}
-use Rattle.entering.proofs.Filling.{held-within, room-enough}
+use Rattle.changes.specs.FedStore.{FedStore, Acceptable, recentAt}
+use Rattle.changes.proofs.Recent.{recent-within}
+use Rattle.changes.proofs.Before.{rising, wide, held-seen}
+use Rattle.changes.proofs.Counted.{total-fed}
+use Rattle.changes.proofs.Owning.{Owned, owned-fed}
+use Rattle.changes.proofs.Filling.{held-within, room-enough}
 
 module _ (s t : List ℕ) (d : ℕ) (i : Sample) (a : ℕ) (f : FedStore s t d i a) (p : Acceptable s d i a) where
   cr : Within (recentAt s d i)

@@ -27,11 +27,11 @@ use Rattle.store.specs.Plain.{Open}
 use Rattle.store.proofs.Parts.{records-length}
 use Rattle.store.proofs.Fitting.{open?}
 use Rattle.store.proofs.Standing.{sound-stands}
-use Rattle.entering.specs.FedStore.{Acceptable, recentAt, recordsFed}
-use Rattle.entering.proofs.Recent.{recent-within}
-use Rattle.entering.proofs.Before.{rising}
-use Rattle.entering.proofs.Owning.{Owned, owned-fed, owned-desk}
-use Rattle.entering.proofs.Header.{same?}
+use Rattle.changes.specs.FedStore.{Acceptable, recentAt, recordsFed}
+use Rattle.changes.proofs.Recent.{recent-within}
+use Rattle.changes.proofs.Before.{rising}
+use Rattle.changes.proofs.Owning.{Owned, owned-fed, owned-desk}
+use Rattle.changes.proofs.Header.{same?}
 
 module _ (s : List ℕ) (d : ℕ) (i : Sample) (a : ℕ) (p : Acceptable s d i a) where
   cr : Within (recentAt s d i)

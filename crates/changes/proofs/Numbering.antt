@@ -9,7 +9,7 @@ use lib.ListN.{length}
 use Rattle.numbers.specs.Limits.{desks}
 use Rattle.contexts.specs.Sitting.{Sample, first, second, sampleOf, sameSample}
 use Rattle.store.specs.Layout.{headerSize, deskStart, sizeField, recentField}
-use Rattle.entering.specs.Noted.{Places}
+use Rattle.changes.specs.Noted.{Places}
 
 -- by the sample's number
 pub size-number : (k : ℕ) → k ≤ 1 → 4 + k ≡ sizeField (sampleOf k)

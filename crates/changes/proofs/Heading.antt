@@ -13,11 +13,11 @@ use Rattle.numbers.proofs.Orders.{less, same, more, order}
 use Rattle.contexts.specs.Sitting.{Sample, sameSample}
 use Rattle.store.specs.Layout.{headerSize, room, deskStart, field, sizeField, recentField, sizeAt, slotsAt, deskNumbers}
 use Rattle.store.proofs.Standing.{slots-long}
-use Rattle.entering.specs.FedStore.{shifted}
-use Rattle.entering.specs.Noted.{noted, Places}
-use Rattle.entering.proofs.Numbering.{fields-of, own, other, kin, desk-places}
-use Rattle.entering.proofs.Sets.{six-at, six-are}
-use Rattle.entering.proofs.Noting.{noted-length, noted-before, noted-past, noted-size, noted-symbol}
+use Rattle.changes.specs.FedStore.{shifted}
+use Rattle.changes.specs.Noted.{noted, Places}
+use Rattle.changes.proofs.Numbering.{fields-of, own, other, kin, desk-places}
+use Rattle.changes.proofs.Sets.{six-at, six-are}
+use Rattle.changes.proofs.Noting.{noted-length, noted-before, noted-past, noted-size, noted-symbol}
 
 -- u has a store's header and is as long as the store
 pub record Headed (s u : List ℕ) : Type 0 where

@@ -30,11 +30,11 @@ use Rattle.store.proofs.Local.{desk-stays}
 use Rattle.store.proofs.Passing.{header-long}
 use Rattle.rules.specs.Feed as rule
 use Rattle.rules.specs.Rules.{feed, nextOf, rules}
-use Rattle.entering.specs.FedStore.{FedStore, Acceptable, recentAt, shifted}
-use Rattle.entering.proofs.Recent.{recent-context, recent-within, within, recent-shifted}
-use Rattle.entering.proofs.Counted.{same-sym}
-use Rattle.entering.proofs.Header.{same?, open-after, context-same}
-use Rattle.feeding.proofs.Tallied.{count-after}
+use Rattle.changes.specs.FedStore.{FedStore, Acceptable, recentAt, shifted}
+use Rattle.changes.proofs.Recent.{recent-context, recent-within, within, recent-shifted}
+use Rattle.changes.proofs.Counted.{same-sym}
+use Rattle.changes.proofs.Header.{same?, open-after, context-same}
+use Rattle.changes.proofs.Tallied.{count-after}
 
 module _ (s t : List ℕ) (d : ℕ) (i : Sample) (a : ℕ) (f : FedStore s t d i a) (p : Acceptable s d i a) where
   -- ---- the desk that was fed

@@ -19,8 +19,8 @@ use Rattle.store.proofs.Fitting.{desk-opened, desk-closed}
 use Rattle.rules.specs.Feed as rule
 use Rattle.rules.specs.Rules.{Answer, feed, done, linesOf, rules}
 use Rattle.rules.specs.Rules as rules
-use Rattle.entering.specs.FedStore.{recentAt}
-use Rattle.feeding.proofs.Reserving.{held-fed-contexts}
+use Rattle.changes.specs.FedStore.{recentAt}
+use Rattle.changes.proofs.Reserving.{held-fed-contexts}
 
 module _ (s : List ℕ) (d k a : ℕ) where
   abbrev call : Call rules

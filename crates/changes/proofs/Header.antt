@@ -19,8 +19,8 @@ use Rattle.store.specs.Layout.{deskStart, field, symbolsAt, depthAt, recentFiel
 use Rattle.store.specs.Sound.{reservedAt}
 use Rattle.store.specs.Plain.{Open}
 use Rattle.store.proofs.Standing.{sound-stands}
-use Rattle.entering.specs.FedStore.{FedStore, Acceptable, shifted}
-use Rattle.entering.proofs.Counted.{same-sym}
+use Rattle.changes.specs.FedStore.{FedStore, Acceptable, shifted}
+use Rattle.changes.proofs.Counted.{same-sym}
 
 -- two desks are one, or not
 pub same? : (e d : ℕ) → Dec (e ≡ d)

@@ -36,11 +36,11 @@ use Rattle.rules.specs.Feed.{emptyProgress}
 use Rattle.rules.specs.Rules.{done, rules}
 use Rattle.calls.specs.Promises.{Moves}
 use Rattle.calls.proofs.Keeping.{moves-done}
-use Rattle.desks.specs.Changes.{Opened}
-use Rattle.desks.proofs.Reserving.{left-is}
-use Rattle.desks.proofs.Granting.{Granted, limited, granted}
-use Rattle.desks.proofs.Vacant.{not-there, none-there}
-use Rattle.desks.proofs.Others.{Apart, with, meaning-with, reserves-with, other-desk, other-record}
+use Rattle.changes.specs.Changes.{Opened}
+use Rattle.changes.proofs.Leaving.{left-is}
+use Rattle.changes.proofs.Granting.{Granted, limited, granted}
+use Rattle.changes.proofs.Vacant.{not-there, none-there}
+use Rattle.changes.proofs.Others.{Apart, with, meaning-with, reserves-with, other-desk, other-record}
 
 zeros-below : (A : ℕ) → 1 ≤ A → T (all (below A) (0 ∷ 0 ∷ 0 ∷ 0 ∷ 0 ∷ 0 ∷ []))
 unfolding all

@@ -33,7 +33,7 @@ use Rattle.store.proofs.Passing.{record-key, header-long}
 use Rattle.store.proofs.Fitting.{desk-reserved, reserved-means}
 use Rattle.store.proofs.Local.{SameDesk, same-size, same-slots, desk-stays}
 use Rattle.store.proofs.Declared.{key-stands}
-use Rattle.desks.specs.Changes.{Beside}
+use Rattle.changes.specs.Changes.{Beside}
 
 -- a sound store s and one that has all but desk d's numbers and records
 pub record Apart (s t : List ℕ) (d : ℕ) : Type 0 where

@@ -15,7 +15,7 @@ use Rattle.records.proofs.Lent.{past-lent, agree-later}
 use Rattle.replay.specs.Room.{Opening, naming}
 use Rattle.store.specs.Layout.{headerSize, storeSize, deskStart, room, field, sizeAt, slotsAt, recordsIn, deskNumbers}
 use Rattle.store.specs.Meaning.{openingAt}
-use Rattle.desks.specs.Changes.{freshDesk, Opened}
+use Rattle.changes.specs.Changes.{freshDesk, Opened}
 
 -- ---- the part: zeros, then the first four numbers
 

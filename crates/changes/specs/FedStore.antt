@@ -1,20 +1,14 @@
 -- How the numbers of a store after an accepted feed stand to those before. Assumes nothing.
-use Prim.Native.Nat.{ℕ, min, _+_, _*_, _≤_, _<_}
+use Prim.Native.Nat.{ℕ, min, _+_, _≤_, _<_}
 use mathlib.Core.Path.{_≡_}
 use mathlib.Core.Logic.{_≢_}
 use mathlib.Core.Bool.{true, cond}
 use mathlib.Core.List.{List, _∷_}
 use lib.ListN.{length, take, drop}
-use lib.Dec.{T}
-use Rattle.numbers.specs.Limits.{mostSymbols, deepest, longest, desks}
+use Rattle.numbers.specs.Limits.{longest, desks}
 use Rattle.numbers.specs.Sum.{one}
-use Rattle.contexts.specs.Context.{isContext}
-use Rattle.contexts.specs.Keys.{deskSpan}
 use Rattle.contexts.specs.Sitting.{Sample, sampleOf, sameSample}
-use Rattle.records.specs.Records.{records, keys}
-use Rattle.records.specs.Held.{rank, Standing}
 use Rattle.records.specs.Fed.{fed, missing}
-use Rattle.records.specs.Located.{Located}
 use Rattle.store.specs.Layout.{storeSize, room, field, symbolsAt, depthAt, reserveAt, sizeAt, slotsAt, recordsIn, deskNumbers}
 use Rattle.store.specs.Sound.{soundb, heldBy}
 use Rattle.store.specs.Plain.{Open}
@@ -34,20 +28,6 @@ pub record Judged (s : List ℕ) (d k a : ℕ) : Type 0 where
   pub of-samples : k ≤ 1
   pub of-alphabet : a < symbolsAt s d
   pub not-full : sizeAt s d (sampleOf k) < longest
-
--- at an open desk it is known where the contexts of a symbol that follows `recent` stand: m of them are held
-pub record Found (s : List ℕ) (d : ℕ) (recent : List ℕ) (m : ℕ) (places : List ℕ) : Type 0 where
-  pub sound : soundb s ≡ true
-  pub at-open : Open s d
-  pub context : T (isContext mostSymbols deepest recent)
-  pub located : Located d recent (recordsIn s) m places
-
--- the first of a desk's records is at place `first`, and none of the next desk's comes before place `from`
-pub record Spanned (d n first from : ℕ) (l : List ℕ) : Type 0 where
-  pub standing : Standing n l
-  pub desk : d < desks
-  pub begin : first ≡ rank (d * deskSpan) (keys (records n l))
-  pub no-later : from ≤ rank ((d + 1) * deskSpan) (keys (records n l))
 
 -- symbol a can be fed to sample i of desk d: none of the refusals applies
 pub record Acceptable (s : List ℕ) (d : ℕ) (i : Sample) (a : ℕ) : Type 0 where

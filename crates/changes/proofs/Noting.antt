@@ -8,9 +8,9 @@ use lib.ListN.{length, take, drop, getD, set, length-set, length-drop}
 use lib.Seq.{sets-eq, length-sets, getD-set-same, getD-set-other, drop-set-lt, drop-drop, length-take-le}
 use Rattle.numbers.specs.Limits.{deepest}
 use Rattle.store.specs.Layout.{headerSize}
-use Rattle.entering.specs.FedStore.{shifted}
-use Rattle.entering.specs.Noted.{noted, Places}
-use Rattle.entering.proofs.Sets.{sets-before, sets-past, sets-at, sets-drop}
+use Rattle.changes.specs.FedStore.{shifted}
+use Rattle.changes.specs.Noted.{noted, Places}
+use Rattle.changes.proofs.Sets.{sets-before, sets-past, sets-at, sets-drop}
 
 -- six numbers moved on by one, as straight-line code does it
 pub moved-on : (a : ℕ) (l : List ℕ) → length l ≡ deepest

@@ -30,10 +30,10 @@ use Rattle.store.specs.Meaning.{openingAt, progressAt, sittingAt}
 use Rattle.store.proofs.Passing.{passed, desk-passed}
 use Rattle.store.proofs.Totalling.{total-keys}
 use Rattle.rules.specs.Feed as rule
-use Rattle.entering.specs.FedStore.{recentAt, recordsFed}
-use Rattle.entering.proofs.Recent.{recent-within, within}
-use Rattle.entering.proofs.Before.{rising, held-is}
-use Rattle.entering.proofs.Owning.{owned-fed, owned-desk}
+use Rattle.changes.specs.FedStore.{recentAt, recordsFed}
+use Rattle.changes.proofs.Recent.{recent-within, within}
+use Rattle.changes.proofs.Before.{rising, held-is}
+use Rattle.changes.proofs.Owning.{owned-fed, owned-desk}
 
 regroup : (p b e : Bool) → (p && (true && (b && e))) ≡ ((p && b) && e)
 regroup true b e = refl

@@ -12,11 +12,11 @@ use Rattle.records.proofs.Lent.{agree-later}
 use Rattle.recording.proofs.Settling.{written-count}
 use Rattle.store.specs.Layout.{headerSize, storeSize, room, deskStart, sizeField, recentField, recordsIn}
 use Rattle.store.proofs.Passing.{header-long}
-use Rattle.entering.specs.FedStore.{FedStore, Acceptable, recordsFed}
-use Rattle.entering.specs.Noted.{noted, Places}
-use Rattle.entering.proofs.Filling.{room-enough}
-use Rattle.entering.proofs.Noting.{noted-used, noted-drop}
-use Rattle.entering.proofs.Heading.{Headed, places, done-long, room-stays, others-stay, limits-stay, sizes-after, slots-after}
+use Rattle.changes.specs.FedStore.{FedStore, Acceptable, recordsFed}
+use Rattle.changes.specs.Noted.{noted, Places}
+use Rattle.changes.proofs.Filling.{room-enough}
+use Rattle.changes.proofs.Noting.{noted-used, noted-drop}
+use Rattle.changes.proofs.Heading.{Headed, places, done-long, room-stays, others-stay, limits-stay, sizes-after, slots-after}
 
 -- the store with its records fed has its header
 module _ (s ys : List ℕ) (enough : headerSize ≤ length s) (long : length ys ≡ length (drop headerSize s)) where

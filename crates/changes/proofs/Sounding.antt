@@ -24,11 +24,11 @@ use Rattle.store.specs.Plain.{Open, ContextAt, Counts, recordFor, totalAt, nthR
 use Rattle.store.proofs.Parts.{records-length}
 use Rattle.store.proofs.Standing.{sound-stands}
 use Rattle.store.proofs.Converse.{stands-sound}
-use Rattle.entering.specs.FedStore.{FedStore, Acceptable, recentAt}
-use Rattle.entering.proofs.Recent.{within}
-use Rattle.entering.proofs.Counted.{begins-trans, one-part, either}
-use Rattle.entering.proofs.Header.{same?, limit-same, size-after, open-before, open-after, context-same, reservations-same, size-within, slots-below}
-use Rattle.feeding.proofs.Tallied.{rising-after, count-after, total-after, owned-after, seen-after, held-after, few-after}
+use Rattle.changes.specs.FedStore.{FedStore, Acceptable, recentAt}
+use Rattle.changes.proofs.Recent.{within}
+use Rattle.changes.proofs.Counted.{begins-trans, one-part, either}
+use Rattle.changes.proofs.Header.{same?, limit-same, size-after, open-before, open-after, context-same, reservations-same, size-within, slots-below}
+use Rattle.changes.proofs.Tallied.{rising-after, count-after, total-after, owned-after, seen-after, held-after, few-after}
 
 module _ (s t : List ℕ) (d : ℕ) (i : Sample) (a : ℕ) (f : FedStore s t d i a) (p : Acceptable s d i a) where
   stands : Sound s

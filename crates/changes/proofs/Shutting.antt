@@ -32,8 +32,8 @@ use Rattle.store.proofs.Fitting.{desk-opened, desk-closed}
 use Rattle.rules.specs.Rules.{done, rules}
 use Rattle.calls.specs.Promises.{Moves}
 use Rattle.calls.proofs.Keeping.{moves-refused, moves-done}
-use Rattle.desks.specs.Changes.{Closed}
-use Rattle.desks.proofs.Others.{Apart, with, meaning-with, reserves-with, other-desk, other-record}
+use Rattle.changes.specs.Changes.{Closed}
+use Rattle.changes.proofs.Others.{Apart, with, meaning-with, reserves-with, other-desk, other-record}
 
 -- ---- the table
 

@@ -25,8 +25,8 @@ use Rattle.store.proofs.Passing.{passed, record-key}
 use Rattle.store.proofs.Fitting.{desk-opened, desk-closed}
 use Rattle.store.proofs.Declared.{key-stands}
 use Rattle.rules.specs.Rules.{rules}
-use Rattle.desks.specs.Changes.{Openable}
-use Rattle.desks.proofs.Granting.{Ready, already-open}
+use Rattle.changes.specs.Changes.{Openable}
+use Rattle.changes.proofs.Granting.{Ready, already-open}
 
 pub room-made : (s : List ℕ) → meaning s .made ≡ room s
 unfolding meaning

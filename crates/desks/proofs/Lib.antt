@@ -1,9 +1,0 @@
-pub mod Reserving
-pub mod Others
-pub mod Shutting
-pub mod Granting
-pub mod Vacant
-pub mod Beginning
-pub mod Removal
-pub mod Laying
-pub mod Limits
