@@ -23,3 +23,7 @@ pub mod Tallied
 pub mod Sounding
 pub mod Moving
 pub mod Judging
+pub mod Feeding
+pub mod Flat
+pub mod Written
+pub mod Possible

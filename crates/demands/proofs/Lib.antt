@@ -5,3 +5,5 @@ pub mod Estimate
 pub mod Demand2
 pub mod Demand3
 pub mod Program
+pub mod Possible
+pub mod Replays

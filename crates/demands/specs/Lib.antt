@@ -2,3 +2,4 @@ pub mod Marked
 pub mod Runs
 pub mod Demands
 pub mod Program
+pub mod Replays

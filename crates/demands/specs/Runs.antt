@@ -48,3 +48,17 @@ pub data Run : List ℕ → List (Call rules) → List (Outcome Answer) → List
   stop : {σ : List ℕ} → Run σ [] [] σ
   then : {σ τ υ : List ℕ} {c : Call rules} {cs : List (Call rules)} {o : Outcome Answer} {os : List (Outcome Answer)}
       → Does σ c o τ → Run τ cs os υ → Run σ (c ∷ cs) (o ∷ os) υ
+
+-- ---- that there is such a run
+
+-- some outcome, and numbers after it, are allowed to a call on the numbers σ
+pub record CanDo (σ : List ℕ) (c : Call rules) : Type 0 where
+  pub outcome : Outcome Answer
+  pub after : List ℕ
+  pub does : Does σ c outcome after
+
+-- .. and to calls one after the other
+pub record CanRun (σ : List ℕ) (cs : List (Call rules)) : Type 0 where
+  pub outcomes : List (Outcome Answer)
+  pub end : List ℕ
+  pub run : Run σ cs outcomes end

@@ -1,5 +1,5 @@
 -- Refusal 10 or the feed, as the code has them. Assumes nothing.
-use mathlib.Core.Path.{_≡_, refl, sym, ap, _∙_}
+use mathlib.Core.Path.{_≡_, sym, ap, _∙_}
 use mathlib.Core.Bool.{Bool, true, false}
 use mathlib.Core.List.{List}
 use Prim.Native.Nat.{ℕ, _+_, _-_, _≤_}
@@ -16,15 +16,14 @@ use Rattle.store.specs.Layout.{headerSize, used, reserveAt, recordsIn}
 use Rattle.store.specs.Sound.{soundb, heldBy}
 use Rattle.rules.specs.Rules.{feed, done}
 use Rattle.calls.specs.Promises.{Moves}
-use Rattle.calls.proofs.Keeping.{moves-refused, moves-done}
+use Rattle.calls.proofs.Keeping.{moves-refused}
 use Rattle.changes.specs.FedStore.{FedStore, Judged, Acceptable, recentAt}
 use Rattle.entering.specs.Seeking.{Found}
 use Rattle.changes.proofs.Before.{rising}
 use Rattle.entering.proofs.Asking.{askable}
 use Rattle.entering.proofs.Clearing.{clear-from}
-use Rattle.changes.proofs.Sounding.{fed-sound}
-use Rattle.changes.proofs.Moving.{fed-meaning}
-use Rattle.changes.proofs.Judging.{past-reservation, accepted}
+use Rattle.changes.proofs.Judging.{past-reservation}
+use Rattle.changes.proofs.Feeding.{fed-moves}
 
 -- the recent symbols of a feed that is judged
 module _ (s : List ℕ) (d k a : ℕ) (j : Judged s d k a) (r : List ℕ) (is-recent : r ≡ recentAt s d (sampleOf k)) where
@@ -64,11 +63,5 @@ module _ (s : List ℕ) (d k a : ℕ) (j : Judged s d k a) (r : List ℕ) (is-re
         pub write-asks : Acceptable s d (sampleOf k) a × (k ≤ 1) × (r ≡ recentAt s d (sampleOf k)) × Located d r (recordsIn s) m places
         write-asks = (acceptable, j .of-samples, is-recent, at)
 
-        pub fed-moves : (t : List ℕ) → FedStore s t d (sampleOf k) a → Moves s (atDesk d (asking (feed k a))) (answered done) t
-        fed-moves t g =
-            moves-done s (atDesk d (asking (feed k a))) done t (j .sound)
-            (accepted s d k a (j .at-open) (j .of-samples) (j .of-alphabet) (j .not-full) (j .sound) within)
-            (fed-sound s t d (sampleOf k) a g acceptable)
-            (fed-meaning s t d (sampleOf k) a g acceptable k refl)
-            (g .past-same)
-            (g .length-same)
+        pub fed-kept : (t : List ℕ) → FedStore s t d (sampleOf k) a → Moves s (atDesk d (asking (feed k a))) (answered done) t
+        fed-kept t g = fed-moves s t d k a (j .of-samples) acceptable g

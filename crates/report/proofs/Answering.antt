@@ -21,7 +21,7 @@ use Rattle.rules.specs.Report.{Reported, report}
 use Rattle.rules.specs.Rules.{reported}
 use Rattle.calls.specs.Promises.{withRows, Reports}
 use Rattle.report.specs.Desk.{CanReportOn, WeighedDesk}
-use Rattle.report.proofs.Judging.{sheet-short, rows-told, reports-refused, reports-rows, rows-back}
+use Rattle.calls.proofs.Reporting.{sheet-short, rows-told, reports-refused, reports-rows, rows-back}
 use Rattle.report.proofs.Writing.{all-fit, from-row}
 
 module _ (s : List ℕ) (k : Desk) (c : CanReportOn s k) (place : ℕ) (sheet : List ℕ) where

@@ -1,6 +1,5 @@
 pub mod Standing
 pub mod ByValue
-pub mod Judging
 pub mod Refusing
 pub mod Writing
 pub mod Answering

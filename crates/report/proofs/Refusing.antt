@@ -17,7 +17,7 @@ use Rattle.store.proofs.Fitting.{desk-opened, desk-closed}
 use Rattle.weighing.specs.declared.Desk.{Desk}
 use Rattle.report.specs.Desk.{deskIn, CanReportOn}
 use Rattle.calls.specs.Promises.{Reports}
-use Rattle.report.proofs.Judging.{no-such-desk, not-open, first-empty, second-empty, reports-refused}
+use Rattle.calls.proofs.Reporting.{no-such-desk, not-open, first-empty, second-empty, reports-refused}
 
 module _ (s : List ℕ) (d place : ℕ) (sheet : List ℕ) (sound : soundb s ≡ true) where
   pub told-no-desk : desks ≤ d → Reports s d place (refused 2) sheet sheet

@@ -19,7 +19,7 @@ use Rattle.weighing.specs.declared.Desk.{Desk}
 use Rattle.calls.specs.Promises.{withRows}
 use Rattle.report.specs.Desk.{CanReportOn, DecidedDesk}
 use Rattle.report.proofs.Standing.{fits, sitting-is, weighable}
-use Rattle.report.proofs.Judging.{sheet-length, rows-from}
+use Rattle.calls.proofs.Reporting.{sheet-length, rows-from}
 
 module _ (s : List ℕ) (k : Desk) (c : CanReportOn s k) where
   pub all-fit : AllFit (reportOf (sittingAt s (k .number)))

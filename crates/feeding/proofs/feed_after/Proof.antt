@@ -1,6 +1,6 @@
 -- `feeding::feed_after` meets its contract: refusal 10, or the store fed. Assumes nothing.
 use borrow.Author.Needs.{needs}
-use Rattle.feeding.proofs.Answering.{then-asks, found, refused-past, write-asks, fed-moves}
+use Rattle.feeding.proofs.Answering.{then-asks, found, refused-past, write-asks, fed-kept}
 use Rattle.feeding.proofs.feed_after.Statement.{statement}
 use Rattle.feeding.proofs.feed_after.Tie as tie
 
@@ -50,7 +50,7 @@ returns-2 c =
     let sought = past .before .before in
     let start = sought .before .before .before .before in
     let x = start .args in
-    fed-moves (x .store .now) (x .desk) (x .sample) (x .symbol) (start .pre .0) (x .recent .now) (start .pre .1) (sought .seek-in .result .found) (sought .seek-in .result .places) (sought .seek-in .ensures)
+    fed-kept (x .store .now) (x .desk) (x .sample) (x .symbol) (start .pre .0) (x .recent .now) (start .pre .1) (sought .seek-in .result .found) (sought .seek-in .result .places) (sought .seek-in .ensures)
     (past .is-past .result) (past .is-past .ensures) (else .if1 .left) (wrote .last .0) (wrote .ensures)
 
 pub feed-after-spec : {M : Type 1} → statement M

@@ -14,7 +14,7 @@ use Rattle.store.proofs.Standing.{sound-stands}
 use Rattle.weighing.specs.declared.Desk.{Desk}
 use Rattle.calls.specs.Refusals.{writtenOf}
 use Rattle.calls.specs.Promises.{Reports}
-use Rattle.report.proofs.Judging.{reports-unsound}
+use Rattle.calls.proofs.Reporting.{reports-unsound}
 use Rattle.report.proofs.Refusing.{told-no-desk, told-shut, told-first, told-second, can-report}
 use Rattle.report.proofs.report.Statement.{statement}
 use Rattle.report.proofs.report.Tie as tie
