@@ -9,18 +9,21 @@ ghost use Rattle.store.specs.Meaning.{meaning};
 ghost use Rattle.calls.specs.Refusals.{endingOf};
 ghost use Rattle.printing.specs.Putting.{Printed};
 ghost use Rattle.sitting_file.specs.Format.{readOf};
+ghost use Rattle.sitting_file.specs.Input.{inputBytes};
 ghost use Rattle.sitting_file.specs.declared.Reading.the-variants.{Accepted};
 ghost use Rattle.judgement.specs.Judgement.{roomMade};
 ghost use Rattle.judgement.specs.Sitting.{seated, fedBoth, runOf, Means, Feeds};
 ghost use Rattle.judgement.specs.Answers.{toldOf, Answers};
-ghost use Rattle.judgement.specs.Prints.{CanPrint, textFrom, Prints};
+ghost use Rattle.judgement.specs.Prints.{CanPrint, textFrom, Prints, PrintsInput};
 use calls::Ending;
 use calls::ReportAnswer;
 use judgement::SittingAnswer;
 use printing::Head;
 use printing::TEXT_BYTES;
+use sitting_file::INPUT_BYTES;
 use sitting_file::Reading;
 use sitting_file::Shape;
+use sitting_file::judged_bytes;
 
 // 2,048 + 24 times 256 numbers.
 pub const STORE_NUMBERS: usize = 8192;
@@ -47,6 +50,20 @@ pub fn sitting_answer(
     }
 }
 
+// Puts the answer to a program's input at the start of the buffer as text, and answers how many bytes it has. Of the input, which may be longer,
+// `many` bytes were read.
+pub fn input_text(
+    input: &[u8; INPUT_BYTES],
+    many: usize,
+    store: &mut [u32; STORE_NUMBERS],
+    sheet: &mut [u32; SHEET_NUMBERS],
+    buffer: &mut [u8; TEXT_BYTES],
+) -> usize
+    ensures { λ r. ⌜ PrintsInput (now (input .entry)) many (now (store .entry)) (now (sheet .entry)) (now (buffer .entry)) r (now (store .exit)) (now (sheet .exit)) (now (buffer .exit)) ⌝ }
+{
+    read_text(input, many, store, sheet, buffer)
+}
+
 // Puts the answer to a file at the start of the buffer as text, and answers how many bytes it has.
 pub fn sitting_text(
     file: &[u8],
@@ -58,6 +75,21 @@ pub fn sitting_text(
 {
     let answer = sitting_answer(file, store, sheet);
     put_answer(buffer, answer, sheet)
+}
+
+// The same over the bytes as a slice: those that were read are the file.
+fn read_text(
+    input: &[u8],
+    many: usize,
+    store: &mut [u32; STORE_NUMBERS],
+    sheet: &mut [u32; SHEET_NUMBERS],
+    buffer: &mut [u8; TEXT_BYTES],
+) -> usize
+    requires { ⌜ length (now input) ≡ inputBytes ⌝ }
+    ensures { λ r. ⌜ PrintsInput (now (input .entry)) many (now (store .entry)) (now (sheet .entry)) (now (buffer .entry)) r (now (store .exit)) (now (sheet .exit)) (now (buffer .exit)) ⌝ }
+{
+    let end = judged_bytes(many);
+    sitting_text(&input[..end], store, sheet, buffer)
 }
 
 // Puts an answer's text, with the rows that stand on the sheet.

@@ -1,15 +1,16 @@
 // Prints the program's answer to each file that its arguments name, one after the other.
 use libc::STDOUT_FILENO;
 use printing::TEXT_BYTES;
+use sitting_file::INPUT_BYTES;
 
 // The program over a descriptor.
 fn answer(fd: i32) {
-    let mut input = [0u8; 2048];
+    let mut input = [0u8; INPUT_BYTES];
     let many = io::read_full(fd, &mut input);
     let mut store = [0u32; 8192];
     let mut sheet = [0u32; 5632];
     let mut text = [0u8; TEXT_BYTES];
-    let end = answering::sitting_text(&input[..many], &mut store, &mut sheet, &mut text);
+    let end = answering::input_text(&input, many, &mut store, &mut sheet, &mut text);
     io::write_all(STDOUT_FILENO, &text[..end]);
 }
 

@@ -2,14 +2,15 @@
 use libc::STDIN_FILENO;
 use libc::STDOUT_FILENO;
 use printing::TEXT_BYTES;
+use sitting_file::INPUT_BYTES;
 
-// Longer input is judged on its first 2,048 bytes, which show the fault of the whole (judgement/proofs/Longer `input-read`).
+// Reads, lends and writes: what is printed is the answer to all of standard input (judgement/specs/Prints `PrintsInput`).
 fn main() {
-    let mut input = [0u8; 2048];
+    let mut input = [0u8; INPUT_BYTES];
     let many = io::read_full(STDIN_FILENO, &mut input);
     let mut store = [0u32; 8192];
     let mut sheet = [0u32; 5632];
     let mut text = [0u8; TEXT_BYTES];
-    let end = answering::sitting_text(&input[..many], &mut store, &mut sheet, &mut text);
+    let end = answering::input_text(&input, many, &mut store, &mut sheet, &mut text);
     io::write_all(STDOUT_FILENO, &text[..end]);
 }

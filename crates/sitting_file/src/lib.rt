@@ -1,7 +1,8 @@
 // Reads sitting files: A, D, n, m, n symbols, m symbols, each a number in groups of seven bits.
 ghost use mathlib.Core.Path.{_≡_};
-ghost use Prim.Native.Nat.{_+_};
+ghost use Prim.Native.Nat.{min, _+_};
 ghost use Rattle.sitting_file.specs.Format.{refusalNumber, judgedNumber, numberAt, headerOf, symbolsFrom, readOf};
+ghost use Rattle.sitting_file.specs.Input.{inputBytes};
 ghost use Rattle.sitting_file.specs.Samples.{InLimits};
 use numbers::DEEPEST;
 use numbers::FEWEST_SYMBOLS;
@@ -41,6 +42,9 @@ enum Number {
     Fault(Refusal),
 }
 
+// How many bytes of its input a program reads at most.
+pub const INPUT_BYTES: usize = 2048;
+
 const HIGH_BIT: u32 = 128;
 
 // Whether a file is a sitting's, and why not. The promise is an equation, so it allows one answer to each file.
@@ -51,6 +55,16 @@ pub fn read(file: &[u8]) -> Reading
         Heading::Faulty(why) => Reading::Refused(why),
         Heading::Whole(shape, at) => symbols_from(file, at, shape),
     }
+}
+
+// How many of so many bytes of input are judged.
+pub fn judged_bytes(many: usize) -> usize
+    ensures { λ r. ⌜ r ≡ min many inputBytes ⌝ }
+{
+    if many < INPUT_BYTES {
+        return many;
+    }
+    INPUT_BYTES
 }
 
 // The header at the start of a file, whatever follows it. One answer to each file, as for `read`.
