@@ -26,7 +26,7 @@ use Rattle.replay.specs.Room.{Opening, opened, reserved}
 use Rattle.replay.specs.Table.{answered}
 use Rattle.replay.specs.Machine.{opening, atDesk, moved, shift}
 use Rattle.store.specs.Layout.{symbolsAt, depthAt, reserveAt, sizeAt, slotsAt, recordsIn}
-use Rattle.store.specs.Sound.{below, deskOk, heldBy, recordOk, soundb}
+use Rattle.store.specs.Sound.{ofAlphabet, deskOk, heldBy, recordOk, soundb}
 use Rattle.store.specs.Plain.{Open}
 use Rattle.store.specs.Meaning.{progressAt, meaning}
 use Rattle.store.proofs.Desks.{stands-desk}
@@ -42,7 +42,7 @@ use Rattle.changes.proofs.Granting.{Granted, limited, granted}
 use Rattle.changes.proofs.Vacant.{not-there, none-there}
 use Rattle.changes.proofs.Others.{Apart, with, meaning-with, reserves-with, other-desk, other-record}
 
-zeros-below : (A : ℕ) → 1 ≤ A → T (all (below A) (0 ∷ 0 ∷ 0 ∷ 0 ∷ 0 ∷ 0 ∷ []))
+zeros-below : (A : ℕ) → 1 ≤ A → T (all (ofAlphabet A) (0 ∷ 0 ∷ 0 ∷ 0 ∷ 0 ∷ 0 ∷ []))
 unfolding all
 zeros-below A l = rw (lt-ltb 0 A l) tt
 

@@ -9,7 +9,7 @@ ghost use Rattle.records.specs.Records.{width, records, key};
 ghost use Rattle.contexts.specs.Keys.{deskOf, deskSpan, weight};
 ghost use Rattle.contexts.specs.Sitting.{sumOf};
 ghost use Rattle.store.specs.Layout.{headerSize};
-ghost use Rattle.store.specs.Sound.{soundb, below, frameOk, limitsOk, slotsOk, deskTest, reservedAt, quietFrom, countsOk, tableOk};
+ghost use Rattle.store.specs.Sound.{soundb, ofAlphabet, frameOk, limitsOk, slotsOk, deskTest, reservedAt, quietFrom, countsOk, tableOk};
 ghost use Rattle.store.specs.Walk.{largestSum, Summed, oldestOk, endsOk, upMark, keyFits, seenMark, markOk, stepOk, tallyOk, passb};
 use numbers::DEEPEST;
 use numbers::DESKS;
@@ -334,7 +334,7 @@ fn slots_ok(store: &[u32], desk: usize) -> bool
 
 // Whether every symbol of a part is below `a`.
 fn all_below(part: &[u32], a: u32) -> bool
-    ensures { λ r. ⌜ r ≡ all (below a) (now (part .entry)) ⌝ }
+    ensures { λ r. ⌜ r ≡ all (ofAlphabet a) (now (part .entry)) ⌝ }
 {
     let mut i: usize = 0;
     while i < part.len() {

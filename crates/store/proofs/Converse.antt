@@ -19,7 +19,7 @@ use Rattle.records.specs.Records.{key, keys, countsOf, rises, lookup}
 use Rattle.records.proofs.Rising.{apart-rises}
 use Rattle.records.proofs.Finding.{lookup-place}
 use Rattle.store.specs.Layout.{used, isOpen, symbolsAt, depthAt, sizeAt, slotsAt, recordsIn, totalOf}
-use Rattle.store.specs.Sound.{below, eachSample, deskOk, heldBy, keyOk, quietFrom, countsOk, sampleOk, tableOk, parentOk, recordOk, soundb}
+use Rattle.store.specs.Sound.{ofAlphabet, eachSample, deskOk, heldBy, keyOk, quietFrom, countsOk, sampleOk, tableOk, parentOk, recordOk, soundb}
 use Rattle.store.specs.Plain.{Open, ContextAt, recordFor, totalAt, nthRecord, Sound}
 use Rattle.store.proofs.Many.{sample-of}
 use Rattle.store.proofs.Parts.{records-length}
@@ -54,7 +54,7 @@ module _ (s : List ℕ) (h : Sound s) where
           some = h .reserve-some d o;
           sizes = h .lengths d o;
           within = h .reserved-held d o;
-          slots = λ i. all-of (below (symbolsAt s d)) (slotsAt s d i) 0 (λ j m. lt→ltb (getD (slotsAt s d i) j 0) (symbolsAt s d)
+          slots = λ i. all-of (ofAlphabet (symbolsAt s d)) (slotsAt s d i) 0 (λ j m. lt→ltb (getD (slotsAt s d i) j 0) (symbolsAt s d)
               (h .symbols d o i j (rw (← slots-long s d i l (omega (arith, h .long))) m)));
         })
     | no n ↦ of-true _ (desk-shut s d (heldBy d (recordsIn s)) n)

@@ -11,7 +11,7 @@ use Rattle.numbers.specs.Every.{all}
 use Rattle.numbers.proofs.Tests.{both, left, right, is-true, is-false}
 use Rattle.contexts.specs.Sitting.{Sample}
 use Rattle.store.specs.Layout.{isOpen, symbolsAt, depthAt, reserveAt, sizeAt, slotsAt}
-use Rattle.store.specs.Sound.{below, eachSample, limitsOk, deskTest}
+use Rattle.store.specs.Sound.{ofAlphabet, eachSample, limitsOk, deskTest}
 use Rattle.store.proofs.Many.{sample-at, sample-of}
 
 -- what the test says of an open desk with so many records
@@ -22,11 +22,11 @@ pub record DeskStands (s : List ℕ) (d many : ℕ) : Type 0 where
   pub some : 1 ≤ reserveAt s d
   pub sizes : (i : Sample) → sizeAt s d i ≤ longest
   pub within : many ≤ reserveAt s d
-  pub slots : (i : Sample) → T (all (below (symbolsAt s d)) (slotsAt s d i))
+  pub slots : (i : Sample) → T (all (ofAlphabet (symbolsAt s d)) (slotsAt s d i))
 
 -- an open desk
 pub desk-open : (s : List ℕ) (d many : ℕ) → T (isOpen s d)
-    → deskTest s d many ≡ limitsOk s d && (leb many (reserveAt s d) && eachSample (λ i. all (below (symbolsAt s d)) (slotsAt s d i)))
+    → deskTest s d many ≡ limitsOk s d && (leb many (reserveAt s d) && eachSample (λ i. all (ofAlphabet (symbolsAt s d)) (slotsAt s d i)))
 unfolding deskTest
 desk-open s d many t = rw (is-true (isOpen s d) t)
 
@@ -39,7 +39,7 @@ module _ (s : List ℕ) (d many : ℕ) (here : T (isOpen s d)) where
   pub desk-stands : T (deskTest s d many) → DeskStands s d many
   unfolding limitsOk
   desk-stands t =
-      let slots = eachSample (λ i. all (below (symbolsAt s d)) (slotsAt s d i)) in
+      let slots = eachSample (λ i. all (ofAlphabet (symbolsAt s d)) (slotsAt s d i)) in
       let u = rw (desk-open s d many here) at t in
       let limits = left (limitsOk s d) _ u in
       let rest = right (limitsOk s d) _ u in
@@ -53,7 +53,7 @@ module _ (s : List ℕ) (d many : ℕ) (here : T (isOpen s d)) where
         some = leb→le 1 (reserveAt s d) (left (leb 1 (reserveAt s d)) _ three);
         sizes = λ i. leb→le (sizeAt s d i) longest (sample-at (λ j. leb (sizeAt s d j) longest) (right (leb 1 (reserveAt s d)) _ three) i);
         within = leb→le many (reserveAt s d) (left (leb many (reserveAt s d)) slots rest);
-        slots = sample-at (λ i. all (below (symbolsAt s d)) (slotsAt s d i)) (right (leb many (reserveAt s d)) slots rest);
+        slots = sample-at (λ i. all (ofAlphabet (symbolsAt s d)) (slotsAt s d i)) (right (leb many (reserveAt s d)) slots rest);
       }
 
   pub stands-desk : DeskStands s d many → T (deskTest s d many)
@@ -66,11 +66,11 @@ module _ (s : List ℕ) (d many : ℕ) (here : T (isOpen s d)) where
       (both (leb (depthAt s d) deepest) _ (le→leb (depthAt s d) deepest (h .depth))
       (both (leb 1 (reserveAt s d)) _ (le→leb 1 (reserveAt s d) (h .some))
       (sample-of (λ i. leb (sizeAt s d i) longest) (λ i. le→leb (sizeAt s d i) longest (h .sizes i)))))))
-      (both (leb many (reserveAt s d)) _ (le→leb many (reserveAt s d) (h .within)) (sample-of (λ i. all (below (symbolsAt s d)) (slotsAt s d i)) (h .slots))))
+      (both (leb many (reserveAt s d)) _ (le→leb many (reserveAt s d) (h .within)) (sample-of (λ i. all (ofAlphabet (symbolsAt s d)) (slotsAt s d i)) (h .slots))))
 
 -- six places of the store, as the code lends them
-pub slots-lent : (s : List ℕ) (d a at : ℕ) (t : Bool) → a ≡ symbolsAt s d → t ≡ all (below a) (take (at + deepest - at) (drop at s))
-    → all (below (symbolsAt s d)) (take deepest (drop at s)) ≡ t
+pub slots-lent : (s : List ℕ) (d a at : ℕ) (t : Bool) → a ≡ symbolsAt s d → t ≡ all (ofAlphabet a) (take (at + deepest - at) (drop at s))
+    → all (ofAlphabet (symbolsAt s d)) (take deepest (drop at s)) ≡ t
 slots-lent s d a at t e q =
     let six : at + deepest - at ≡ deepest = omega arith in
     sym (q ∙ rw (e, six))

@@ -19,7 +19,7 @@ use Rattle.contexts.proofs.Strings.{context-cons}
 use Rattle.contexts.proofs.Oldest.{context-parent}
 use Rattle.replay.specs.Room.{Opening, closed, opened, reserved}
 use Rattle.store.specs.Layout.{isOpen, symbolsAt, depthAt, sizeAt, slotsAt}
-use Rattle.store.specs.Sound.{below, reservedAt, soundb}
+use Rattle.store.specs.Sound.{ofAlphabet, reservedAt, soundb}
 use Rattle.store.specs.Plain.{Open}
 use Rattle.store.specs.Meaning.{openingAt, progressAt, deskAt, meaning, SittingFits, Fits}
 use Rattle.store.proofs.Passing.{Passed, passed, desk-passed, context-counts}
@@ -42,11 +42,11 @@ open? s d = elim (T? (ltb d desks && isOpen s d)) [
 
 -- ---- recent symbols
 
-context-of : (A d : ℕ) (l : List ℕ) → T (all (below A) l) → length l ≤ d → T (isContext A d l)
+context-of : (A d : ℕ) (l : List ℕ) → T (all (ofAlphabet A) l) → length l ≤ d → T (isContext A d l)
 unfolding all isContext
 context-of A d [] t h = tt
 context-of A zero (x ∷ l) t h = absurd (omega arith)
-context-of A (suc d) (x ∷ l) t h = context-cons A d x l (ltb→lt x A (left (below A x) (all (below A) l) t)) (context-of A d l (right (below A x) (all (below A) l) t) (omega arith))
+context-of A (suc d) (x ∷ l) t h = context-cons A d x l (ltb→lt x A (left (ofAlphabet A x) (all (ofAlphabet A) l) t)) (context-of A d l (right (ofAlphabet A x) (all (ofAlphabet A) l) t) (omega arith))
 
 -- ---- an open desk
 
@@ -63,7 +63,7 @@ module _ (s : List ℕ) (h : Passed s) (d : ℕ) (o : Open s d) where
     sizes = desk-passed s h d o .sizes;
     recent-length = recent-long;
     recent-below = λ i. context-of (symbolsAt s d) (depthAt s d) (take (min (sizeAt s d i) (depthAt s d)) (slotsAt s d i))
-        (all-take (below (symbolsAt s d)) (min (sizeAt s d i) (depthAt s d)) (slotsAt s d i) (desk-passed s h d o .slots i)) (omega (arith, recent-long i));
+        (all-take (ofAlphabet (symbolsAt s d)) (min (sizeAt s d i) (depthAt s d)) (slotsAt s d i) (desk-passed s h d o .slots i)) (omega (arith, recent-long i));
     only-contexts = λ i c a n. rw (is-false (isContext (symbolsAt s d) (depthAt s d) c) n);
     only-below = λ i c a l. elim (T? (isContext (symbolsAt s d) (depthAt s d) c)) [
       | yes x ↦ rw (is-true (isContext (symbolsAt s d) (depthAt s d) c) x) (context-counts s h d o c x i .quiet a l)

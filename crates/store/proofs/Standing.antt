@@ -19,7 +19,7 @@ use Rattle.records.specs.Records.{key, lookup}
 use Rattle.records.proofs.Rising.{rises-apart}
 use Rattle.records.proofs.Counting.{total-blank}
 use Rattle.store.specs.Layout.{headerSize, deskStart, used, symbolsAt, depthAt, slotsAt, recordsIn, totalOf}
-use Rattle.store.specs.Sound.{below, heldBy, parentKey, recordOk, soundb}
+use Rattle.store.specs.Sound.{ofAlphabet, heldBy, parentKey, recordOk, soundb}
 use Rattle.store.specs.Plain.{Open, ContextAt, recordFor, totalAt, Counts, nthRecord, Sound}
 use Rattle.store.proofs.Parts.{records-length}
 use Rattle.store.proofs.Desks.{DeskStands}
@@ -104,7 +104,7 @@ sound-stands s e =
       alphabet-most = λ d o. desk d o .most;
       depth = λ d o. desk d o .depth;
       lengths = λ d o. desk d o .sizes;
-      symbols = λ d o i j l. ltb→lt (getD (slotsAt s d i) j 0) (symbolsAt s d) (all-at (below (symbolsAt s d)) (slotsAt s d i) j 0 (desk d o .slots i) (rw (slots-long s d i (o .desk) (omega (arith, f .long))) l));
+      symbols = λ d o i j l. ltb→lt (getD (slotsAt s d i) j 0) (symbolsAt s d) (all-at (ofAlphabet (symbolsAt s d)) (slotsAt s d i) j 0 (desk d o .slots i) (rw (slots-long s d i (o .desk) (omega (arith, f .long))) l));
       reservations = h .reserves;
       reserved-held = λ d o. desk d o .within;
       held-once = once s h;

@@ -37,12 +37,12 @@ limitsOk s d =
     && eachSample (λ i. leb (sizeAt s d i) longest))))
 
 -- a symbol is of the alphabet
-abbrev pub below : ℕ → ℕ → Bool
-below A x = ltb x A
+abbrev pub ofAlphabet : ℕ → ℕ → Bool
+ofAlphabet A x = ltb x A
 
 -- the places of the recent symbols have symbols
 abbrev pub slotsOk : List ℕ → ℕ → Bool
-slotsOk s d = eachSample (λ i. all (below (symbolsAt s d)) (slotsAt s d i))
+slotsOk s d = eachSample (λ i. all (ofAlphabet (symbolsAt s d)) (slotsAt s d i))
 
 -- a desk of so many records, where it is open
 unfoldable pub deskTest : List ℕ → ℕ → ℕ → Bool

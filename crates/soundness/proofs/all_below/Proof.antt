@@ -6,12 +6,12 @@ use borrow.Author.Tests.{lt-ltb, le-ltb}
 use lib.ListN.{length, drop, getD}
 use Rattle.numbers.specs.Every.{all}
 use Rattle.numbers.proofs.Every.{all-step, all-end}
-use Rattle.store.specs.Sound.{below}
+use Rattle.store.specs.Sound.{ofAlphabet}
 use Rattle.soundness.proofs.all_below.Statement.{statement}
 use Rattle.soundness.proofs.all_below.Tie as tie
 
 abbrev Inv-loop : tie.InvT-loop
-Inv-loop part a i₀ i = (i ≤ length part) × (all (below a) (drop i part) ≡ all (below a) part)
+Inv-loop part a i₀ i = (i ≤ length part) × (all (ofAlphabet a) (drop i part) ≡ all (ofAlphabet a) part)
 
 abbrev μ-loop : tie.MeasureT-loop
 μ-loop part a i₀ i = length part - i
@@ -35,19 +35,19 @@ loop-again : tie.Need-loop-again Inv-loop μ-loop
 loop-again c =
     let loop = c .before .before .before .loop in
     let args = c .before .before .before .before .args in
-    (omega arith, rw (← loop .inv .1, all-step (below (args .a)) (args .part .now) (loop .i) 0 (omega arith), lt-ltb (getD (args .part .now) (loop .i) 0) (args .a) (c .if1 .taken)))
+    (omega arith, rw (← loop .inv .1, all-step (ofAlphabet (args .a)) (args .part .now) (loop .i) 0 (omega arith), lt-ltb (getD (args .part .now) (loop .i) 0) (args .a) (c .if1 .taken)))
 
 returns : tie.Need-returns Inv-loop μ-loop
 returns c =
     let loop = c .before .before .before .loop in
     let args = c .before .before .before .before .args in
-    rw (← loop .inv .1, all-step (below (args .a)) (args .part .now) (loop .i) 0 (omega arith), le-ltb (getD (args .part .now) (loop .i) 0) (args .a) (c .if1 .left))
+    rw (← loop .inv .1, all-step (ofAlphabet (args .a)) (args .part .now) (loop .i) 0 (omega arith), le-ltb (getD (args .part .now) (loop .i) 0) (args .a) (c .if1 .left))
 
 returns-2 : tie.Need-returns-2 Inv-loop μ-loop
 returns-2 c =
     let loop = c .before .loop in
     let args = c .before .before .args in
-    sym (all-end (below (args .a)) (args .part .now) (loop .i) (omega arith)) ∙ loop .inv .1
+    sym (all-end (ofAlphabet (args .a)) (args .part .now) (loop .i) (omega arith)) ∙ loop .inv .1
 
 pub all-below-spec : {M : Type 1} → statement M
 all-below-spec =
