@@ -6,17 +6,19 @@ use Prim.Native.Nat.{ℕ, _+_, _*_, _≤_, _<_}
 use native.Mathlib.Omega.{arith}
 use lib.Dec.{T, ltb, ltb→lt, lt→ltb}
 use lib.ListN.{length, drop, length-drop}
+use Rattle.numbers.specs.Limits.{mostSymbols, longest}
+use Rattle.numbers.proofs.Sums.{sum-part}
 use Rattle.numbers.proofs.Tests.{T?, bool-ext, is-false}
 use Rattle.contexts.specs.Keys.{keyOf}
 use Rattle.contexts.specs.Sitting.{Sample, first, second, isHeld}
-use Rattle.records.specs.Records.{width, lookup}
+use Rattle.records.specs.Records.{width, countOf, lookup}
 use Rattle.records.specs.Held.{held, Rising, Wide, Standing}
 use Rattle.records.proofs.Parts.{wide-records}
 use Rattle.records.proofs.Finding.{held-place, lookup-place, lookup-absent}
 use Rattle.records.proofs.Counting.{total-blank}
 use Rattle.store.specs.Layout.{headerSize, used, recordsIn, totalOf}
 use Rattle.store.specs.Sound.{soundb}
-use Rattle.store.specs.Plain.{Open, ContextAt, totalAt, nthRecord, Sound}
+use Rattle.store.specs.Plain.{Open, ContextAt, recordFor, totalAt, nthRecord, Sound}
 use Rattle.store.specs.Meaning.{sittingAt}
 use Rattle.store.proofs.Parts.{records-length}
 use Rattle.store.proofs.Passing.{passed}
@@ -40,6 +42,14 @@ module _ (s : List ℕ) (h : soundb s ≡ true) where
   pub standing : Standing (used s) (drop headerSize s)
   unfolding recordsIn
   standing = record { fits = body-fits; rising = rising }
+
+  -- no count is above a sample's longest
+  pub record-small : (i : Sample) (a : ℕ) → a < mostSymbols → (n : ℕ) → n < length (recordsIn s) → countOf i (nthRecord s n) a ≤ longest
+  record-small i a l n m =
+      let c = stands .each-counts n (omega (arith, records-length s)) in
+      let own : recordFor s (c .desk) (c .context) ≡ nthRecord s n = ap (λ (x : ℕ). lookup x (recordsIn s)) (sym (c .under-key)) ∙ lookup-place 0 n (recordsIn s) rising m in
+      let part : countOf i (nthRecord s n) a ≤ totalOf i (nthRecord s n) = sum-part mostSymbols (countOf i (nthRecord s n)) a l in
+      omega (arith, ap (totalOf i) own, stands .totals (c .desk) (c .at-open) (c .context) (c .is-context) i, stands .lengths (c .desk) (c .at-open) i)
 
   -- a record that is held has counted something
   pub held-seen : (k : ℕ) → T (held k (recordsIn s)) → 0 < totalOf first (lookup k (recordsIn s)) + totalOf second (lookup k (recordsIn s))

@@ -25,5 +25,8 @@ pub mod Moving
 pub mod Judging
 pub mod Feeding
 pub mod Flat
+pub mod Words
+pub mod FedWords
 pub mod Written
+pub mod StoreWords
 pub mod Possible

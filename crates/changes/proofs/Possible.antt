@@ -23,6 +23,7 @@ use Rattle.calls.specs.Promises.{Moves}
 use Rattle.calls.proofs.Keeping.{moves-unsound, moves-refused}
 use Rattle.changes.specs.Changes.{freshDesk}
 use Rattle.changes.specs.FedStore.{Acceptable, recentAt}
+use Rattle.changes.specs.Words.{Words}
 use Rattle.changes.proofs.Granting as grant
 use Rattle.changes.proofs.Vacant.{ready-there, shut-there, open-there}
 use Rattle.changes.proofs.Laying.{laid, opened-now}
@@ -31,20 +32,22 @@ use Rattle.changes.proofs.Shutting.{close-no-desk, close-not-open, clos
 use Rattle.changes.proofs.Judging as judge
 use Rattle.changes.proofs.Feeding.{fed-moves}
 use Rattle.changes.proofs.Written.{shutStore, shut-now, fedStore, fed-now}
+use Rattle.changes.proofs.StoreWords.{opened-words, shut-words, fed-words}
 
--- a call on the numbers s has an outcome, and numbers after it, that the promise of a move allows
+-- a call on the numbers s has an outcome, and numbers after it, that the promise of a move allows; of 32 bits, where those before are
 pub record Possible (s : List ℕ) (c : Call rules) : Type 0 where
   pub outcome : Outcome Answer
   pub after : List ℕ
   pub moves : Moves s c outcome after
+  pub words : Words s → Words after
 
 -- numbers that do not pass the test
 pub unsound-possible : (s : List ℕ) (c : Call rules) → soundb s ≡ false → Possible s c
-unsound-possible s c f = record { outcome = refused 1; after = s; moves = moves-unsound s c f }
+unsound-possible s c f = record { outcome = refused 1; after = s; moves = moves-unsound s c f; words = λ w. w }
 
 module _ (s : List ℕ) (h : soundb s ≡ true) (d : ℕ) where
   refuses : (n : ℕ) (c : Call rules) → verdict rules (meaning s) c ≡ refused n → Possible s c
-  refuses n c v = record { outcome = refused n; after = s; moves = moves-refused s c n h v }
+  refuses n c v = record { outcome = refused n; after = s; moves = moves-refused s c n h v; words = λ w. w }
 
   -- ---- an opening
 
@@ -53,6 +56,7 @@ module _ (s : List ℕ) (h : soundb s ≡ true) (d : ℕ) where
     outcome = answered done;
     after = laid s d (freshDesk o);
     moves = opened-moves s (laid s d (freshDesk o)) d o h shut g (opened-now s d o (header-long s h) (g .ready .desk) (freshDesk o) refl);
+    words = λ w. opened-words s h w d o g;
   }
 
   reserving : (o : Opening) → d < desks → (Open s d → ⊥) → outsideLimits o ≡ false → Possible s (atDesk d (opening o))
@@ -87,21 +91,21 @@ module _ (s : List ℕ) (h : soundb s ≡ true) (d : ℕ) where
   -- ---- a closing
 
   closed : Open s d → Possible s (atDesk d closing)
-  closed o = record { outcome = answered done; after = shutStore s d; moves = closed-moves s (shutStore s d) d h o (shut-now s d h (o .desk)) }
+  closed o = record { outcome = answered done; after = shutStore s d; moves = closed-moves s (shutStore s d) d h o (shut-now s d h (o .desk)); words = λ w. shut-words s h w d }
 
   pub closing-possible : Possible s (atDesk d closing)
   closing-possible = elim (decLe desks d) [
-    | yes far ↦ record { outcome = refused 2; after = s; moves = close-no-desk s d h far }
+    | yes far ↦ record { outcome = refused 2; after = s; moves = close-no-desk s d h far; words = λ w. w }
     | no near ↦ elim (open? s d) [
       | yes o ↦ closed o
-      | no shut ↦ record { outcome = refused 4; after = s; moves = close-not-open s d h (omega arith) shut }
+      | no shut ↦ record { outcome = refused 4; after = s; moves = close-not-open s d h (omega arith) shut; words = λ w. w }
     ]
   ]
 
   -- ---- a feed
 
   acceptable : (k a : ℕ) → k ≤ 1 → Acceptable s d (sampleOf k) a → Possible s (atDesk d (asking (feed k a)))
-  acceptable k a one p = record { outcome = answered done; after = fedStore s d (sampleOf k) a; moves = fed-moves s (fedStore s d (sampleOf k) a) d k a one p (fed-now s d (sampleOf k) a p) }
+  acceptable k a one p = record { outcome = answered done; after = fedStore s d (sampleOf k) a; moves = fed-moves s (fedStore s d (sampleOf k) a) d k a one p (fed-now s d (sampleOf k) a p); words = λ w. fed-words s h w d (sampleOf k) a p }
 
   module _ (k a : ℕ) where
     judged : Open s d → k ≤ 1 → a < symbolsAt s d → sizeAt s d (sampleOf k) < longest → Possible s (atDesk d (asking (feed k a)))

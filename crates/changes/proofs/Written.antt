@@ -27,11 +27,11 @@ use Rattle.changes.proofs.Placing.{fed-store}
 use Rattle.changes.proofs.Removal.{lent, back, closed-now}
 
 -- a store's numbers past its header
-abbrev body : List ℕ → List ℕ
+abbrev pub body : List ℕ → List ℕ
 body s = drop headerSize s
 
 -- as many records as a sound store has room for stand in them
-fits : (s : List ℕ) → soundb s ≡ true → (rs : List (List ℕ)) → length rs ≤ room s → width * length rs ≤ length (body s)
+pub fits : (s : List ℕ) → soundb s ≡ true → (rs : List (List ℕ)) → length rs ≤ room s → width * length rs ≤ length (body s)
 fits s h rs few = omega (arith, length-drop headerSize s, passed s h .framed .long)
 
 -- ---- a feed

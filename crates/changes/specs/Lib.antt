@@ -1,3 +1,4 @@
 pub mod Changes
 pub mod FedStore
 pub mod Noted
+pub mod Words

@@ -53,6 +53,7 @@ module _ (σ : List ℕ) (d sheet place : ℕ) where
     outcome = refused (refusalNumber why);
     after = σ;
     does = record { before = blank; after = blank; named = long; answer = Refused why; read = refl; reports = r; only-read = refl };
+    words = λ w. w;
   }
 
   module _ (h : soundb σ ≡ true) where
@@ -81,6 +82,7 @@ module _ (σ : List ℕ) (d sheet place : ℕ) where
               reports = table.reports-rows σ d place blank (report x) after h (table.rows-told (meaning σ) d (length blank) place o p near e n m fits) refl;
               only-read = refl;
             };
+            words = λ w. w;
           }
 
       both-fed : CanDo σ (atDesk d (asking (reporting sheet place)))
@@ -123,17 +125,17 @@ possible σ c f = go (soundb σ) refl
 
 -- THEOREM. Each call, at any numbers, has an outcome that its promise allows
 pub each-can : EachCan
-each-can σ (atDesk d (opening o)) = let m = possible σ (atDesk d (opening o)) (λ e. move.opening-possible σ e d o) in record { outcome = m .outcome; after = m .after; does = m .moves }
-each-can σ (atDesk d (asking (feed k a))) = let m = possible σ (atDesk d (asking (feed k a))) (λ e. move.feed-possible σ e d k a) in record { outcome = m .outcome; after = m .after; does = m .moves }
+each-can σ (atDesk d (opening o)) = let m = possible σ (atDesk d (opening o)) (λ e. move.opening-possible σ e d o) in record { outcome = m .outcome; after = m .after; does = m .moves; words = m .words }
+each-can σ (atDesk d (asking (feed k a))) = let m = possible σ (atDesk d (asking (feed k a))) (λ e. move.feed-possible σ e d k a) in record { outcome = m .outcome; after = m .after; does = m .moves; words = m .words }
 each-can σ (atDesk d (asking (reporting sheet place))) = can-report σ d sheet place
-each-can σ (atDesk d (asking (charting len code a))) = only-asked σ (atDesk d (asking (charting len code a))) (λ o m. record { outcome = o; after = σ; does = m })
-each-can σ (atDesk d closing) = let m = possible σ (atDesk d closing) (λ e. move.closing-possible σ e d) in record { outcome = m .outcome; after = m .after; does = m .moves }
-each-can σ roomQuestion = only-asked σ roomQuestion (λ o m. record { outcome = o; after = σ; does = m })
+each-can σ (atDesk d (asking (charting len code a))) = only-asked σ (atDesk d (asking (charting len code a))) (λ o m. record { outcome = o; after = σ; does = m; words = λ w. w })
+each-can σ (atDesk d closing) = let m = possible σ (atDesk d closing) (λ e. move.closing-possible σ e d) in record { outcome = m .outcome; after = m .after; does = m .moves; words = m .words }
+each-can σ roomQuestion = only-asked σ roomQuestion (λ o m. record { outcome = o; after = σ; does = m; words = λ w. w })
 
 -- .. and so can calls one after the other
 pub can-run : (σ : List ℕ) (cs : List (Call rules)) → CanRun σ cs
-can-run σ [] = record { outcomes = []; end = σ; run = stop }
+can-run σ [] = record { outcomes = []; end = σ; run = stop; words = λ w. w }
 can-run σ (c ∷ cs) =
     let one = each-can σ c in
     let rest = can-run (one .after) cs in
-    record { outcomes = one .outcome ∷ rest .outcomes; end = rest .end; run = then (one .does) (rest .run) }
+    record { outcomes = one .outcome ∷ rest .outcomes; end = rest .end; run = then (one .does) (rest .run); words = λ w. rest .words (one .words w) }

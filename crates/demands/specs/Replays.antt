@@ -8,6 +8,7 @@ use Rattle.replay.specs.Table.{Outcome, refused}
 use Rattle.replay.specs.Machine.{Call}
 use Rattle.replay.specs.Serial.{calls, struck, serial}
 use Rattle.rules.specs.Rules.{Answer, rules}
+use Rattle.changes.specs.Words.{Words}
 use Rattle.demands.specs.Runs.{MadeNew, Run, CanDo}
 use Rattle.demands.specs.Demands.{Replayed}
 
@@ -19,6 +20,7 @@ EachCan = (σ : List ℕ) (c : Call rules) → CanDo σ c
 pub record NewStore (K : Making) : Type 0 where
   pub store : List ℕ
   pub made : MadeNew K store
+  pub words : Words store
 
 -- every room within the limits has one
 abbrev pub EachRoom : Type 0
@@ -29,6 +31,7 @@ pub record Replays (cs : List (Call rules)) (os : List (Outcome Answer)) (τ σ�
   pub outcomes : List (Outcome Answer)
   pub end : List ℕ
   pub run : Run σ′ (calls rules (serial rules (struck rules cs os))) outcomes end
+  pub words : Words σ′ → Words end
   -- "nothing is refused"
   pub none-refused : (n : ℕ) → List·Memᴰ (refused n) outcomes → ⊥
   pub replayed : Replayed cs os outcomes τ end

@@ -10,6 +10,7 @@ use Rattle.store.specs.Making.{Makes}
 use Rattle.store.specs.declared.Made.the-variants.{Done}
 use Rattle.rules.specs.Rules.{Answer, feed, reporting, charting, rules}
 use Rattle.calls.specs.Refusals.{writtenOf}
+use Rattle.changes.specs.Words.{Words}
 use Rattle.calls.specs.declared.ReportAnswer.{ReportAnswer}
 use Rattle.calls.specs.Promises.{Moves, Asks, Reports}
 
@@ -51,14 +52,16 @@ pub data Run : List ℕ → List (Call rules) → List (Outcome Answer) → List
 
 -- ---- that there is such a run
 
--- some outcome, and numbers after it, are allowed to a call on the numbers σ
+-- some outcome, and numbers after it, are allowed to a call on the numbers σ; and they have 32 bits, where those before have
 pub record CanDo (σ : List ℕ) (c : Call rules) : Type 0 where
   pub outcome : Outcome Answer
   pub after : List ℕ
   pub does : Does σ c outcome after
+  pub words : Words σ → Words after
 
 -- .. and to calls one after the other
 pub record CanRun (σ : List ℕ) (cs : List (Call rules)) : Type 0 where
   pub outcomes : List (Outcome Answer)
   pub end : List ℕ
   pub run : Run σ cs outcomes end
+  pub words : Words σ → Words end

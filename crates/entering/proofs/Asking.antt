@@ -10,31 +10,30 @@ use lib.Dec.{ltb}
 use lib.ListN.{length, take, drop, getD, length-append, length-drop}
 use lib.Seq.{length-take-le}
 use Rattle.numbers.specs.Limits.{mostSymbols, deepest, longest, mostRoom}
-use Rattle.numbers.proofs.Sums.{sum-part}
 use Rattle.contexts.specs.Keys.{deskSpan, keyOf}
 use Rattle.contexts.specs.Sitting.{Sample, sampleOf}
 use Rattle.contexts.proofs.Strings.{context-length}
 use Rattle.contexts.proofs.KeyOrder.{digits-nil, contextKey-lt}
 use Rattle.contexts.proofs.Followed.{context-take}
-use Rattle.records.specs.Records.{width, records, keys, countsOf, lookup, countOf}
+use Rattle.records.specs.Records.{width, records, keys, countsOf, lookup}
 use Rattle.records.specs.Held.{rank, keep, ofDesk, without, Standing}
 use Rattle.records.specs.Fed.{missing, Askable, Feedable}
 use Rattle.records.specs.Located.{Located}
 use Rattle.records.proofs.Parts.{length-parts}
 use Rattle.records.proofs.Rising.{rank-mono, rank-same, length-keys, rank-length}
-use Rattle.records.proofs.Finding.{lookup-each, lookup-place}
+use Rattle.records.proofs.Finding.{lookup-each}
 use Rattle.records.proofs.Counting.{count-blank}
 use Rattle.records.proofs.Lent.{tail-lent}
 use Rattle.recording.proofs.Desks.{length-without, without-cut}
-use Rattle.store.specs.Layout.{headerSize, room, used, field, reserveAt, recordsIn, totalOf}
+use Rattle.store.specs.Layout.{headerSize, room, used, field, reserveAt, recordsIn}
 use Rattle.store.specs.Sound.{soundb, heldBy}
-use Rattle.store.specs.Plain.{Open, recordFor, nthRecord}
+use Rattle.store.specs.Plain.{Open}
 use Rattle.store.proofs.Parts.{records-length}
 use Rattle.store.proofs.Standing.{sound-stands}
 use Rattle.changes.specs.FedStore.{Acceptable, recentAt}
 use Rattle.entering.specs.Seeking.{Found, Spanned}
 use Rattle.changes.proofs.Recent.{recent-within}
-use Rattle.changes.proofs.Before.{rising, standing}
+use Rattle.changes.proofs.Before.{rising, standing, record-small}
 use Rattle.changes.proofs.Filling.{room-missing}
 
 pub askable : (s : List ℕ) → soundb s ≡ true → (d : ℕ) → Open s d → (i : Sample) → Askable d (recentAt s d i) (used s) (drop headerSize s)
@@ -43,13 +42,7 @@ askable s h d o i = record { standing = standing s h; desk = o .desk; context = 
 -- no count is above a sample's longest
 count-small : (s : List ℕ) → soundb s ≡ true → (i : Sample) (a k : ℕ) → a < mostSymbols → getD (countsOf i (lookup k (recordsIn s))) a 0 ≤ longest
 count-small s h i a k l =
-    lookup-each (λ r. getD (countsOf i r) a 0 ≤ longest) k (recordsIn s) (omega (arith, count-blank i a k))
-    (λ n m.
-    let g = sound-stands s h in
-    let c = g .each-counts n (omega (arith, records-length s)) in
-    let own : recordFor s (c .desk) (c .context) ≡ nthRecord s n = ap (λ (x : ℕ). lookup x (recordsIn s)) (sym (c .under-key)) ∙ lookup-place 0 n (recordsIn s) (rising s h) m in
-    let part : countOf i (nthRecord s n) a ≤ totalOf i (nthRecord s n) = sum-part mostSymbols (countOf i (nthRecord s n)) a l in
-    omega (arith, ap (totalOf i) own, g .totals (c .desk) (c .at-open) (c .context) (c .is-context) i, g .lengths (c .desk) (c .at-open) i))
+    lookup-each (λ r. getD (countsOf i r) a 0 ≤ longest) k (recordsIn s) (omega (arith, count-blank i a k)) (record-small s h i a l)
 
 pub feedable : (s : List ℕ) (d k a : ℕ) → k ≤ 1 → Acceptable s d (sampleOf k) a → Feedable d k a (recentAt s d (sampleOf k)) (used s) (drop headerSize s)
 unfolding recordsIn
