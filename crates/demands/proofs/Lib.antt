@@ -8,4 +8,5 @@ pub mod OwnStrings
 pub mod Demand2
 pub mod Demand3
 pub mod AnyStores
+pub mod Charts
 pub mod Program

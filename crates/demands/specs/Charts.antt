@@ -18,12 +18,11 @@ use Rattle.demands.specs.Runs.{MadeNew, Run}
 use Rattle.demands.specs.Demands.{ItsStrings}
 use Rattle.demands.specs.AnyStore.{OpenAt, sittingThere}
 
--- "For a desk, a context and a symbol": of the sitting that was opened with o, by the context's length and code
-pub record AskedOf (o : Opening) (len code a : ℕ) : Type 0 where
-  pub context : List ℕ
-  pub is-context : T (isContext (o .symbols) (o .depth) context)
-  pub length-is : length context ≡ len
-  pub code-is : codeOf context ≡ code
+-- "For a desk, a context and a symbol": the context s, of that length and code, and the symbol a are of the sitting that was opened with o
+pub record AskedOf (o : Opening) (len code a : ℕ) (s : List ℕ) : Type 0 where
+  pub is-context : T (isContext (o .symbols) (o .depth) s)
+  pub length-is : length s ≡ len
+  pub code-is : codeOf s ≡ code
   pub symbol : a < o .symbols
 
 -- ---- at any store, also where its counts are those of no string
@@ -31,8 +30,9 @@ pub record AskedOf (o : Opening) (len code a : ℕ) : Type 0 where
 -- the chart c says of the counts that stand there which samples saw the context, with the symbol's share in each that did
 pub record ChartAt (σ : List ℕ) (d len code a : ℕ) (c : Chart) : Type 0 where
   pub desk : OpenAt σ d
-  pub asked : AskedOf (desk .named) len code a
-  pub says : ChartSays (sittingThere desk) (asked .context) a c
+  pub context : List ℕ
+  pub asked : AskedOf (desk .named) len code a context
+  pub says : ChartSays (sittingThere desk) context a c
 
 -- every accepted chart question that the promise allows is answered so
 abbrev pub ChartsAtStores : Type 0
@@ -43,8 +43,9 @@ ChartsAtStores = (σ : List ℕ) (d len code a : ℕ) (c : Chart) → Asks σ (a
 -- the chart c at desk d is the one of the strings that the desk's own latest sitting was fed, of the sittings gs of a run
 pub record ChartOfItsStrings (gs : List (Course rules)) (d len code a : ℕ) (c : Chart) : Type 0 where
   pub its : ItsStrings gs d
-  pub asked : AskedOf (its .named) len code a
-  pub says : ChartSays (sittingFor (its .named) (its .strings)) (asked .context) a c
+  pub context : List ℕ
+  pub asked : AskedOf (its .named) len code a context
+  pub says : ChartSays (sittingFor (its .named) (its .strings)) context a c
 
 -- every accepted chart question among the calls cs, which answered os, is answered by its sitting's own strings so far
 abbrev pub OwnCharts : List (Call rules) → List (Outcome Answer) → Type 0
