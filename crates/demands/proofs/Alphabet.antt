@@ -33,7 +33,7 @@ reverse-over A us b = onto A us [] b tt
 
 -- the joint estimate of a sitting that counts no symbol from A up has 0 there
 pub estimate-zero : (x : Sitting) (r : Reported) → ((i : Sample) (s : List ℕ) (a : ℕ) → x .symbols ≤ a → x .count i s a ≡ 0) → JointEstimate x r → ZeroFrom (x .symbols) (r .rows)
-estimate-zero x r none j = subst (ZeroFrom (x .symbols)) (sym (j .rows)) (rows-zero x (j .triple) none)
+estimate-zero x r none j = subst (ZeroFrom (x .symbols)) (sym (j .rows)) (rows-zero x none (j .triple))
 
 -- .. and so it is of two strings over the alphabet
 pub strings-zero : (o : Opening) (w : Sample → List ℕ) (r : Reported) → ((i : Sample) → Over (o .symbols) (w i)) → JointEstimate (sittingFor o w) r → ZeroFrom (o .symbols) (r .rows)

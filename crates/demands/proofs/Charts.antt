@@ -5,7 +5,7 @@ use native.Mathlib.Omega.{arith}
 use mathlib.Core.Path.{_≡_, refl, sym, subst, _∙_}
 use mathlib.Core.Bool.{Bool, true, false, not, _||_}
 use mathlib.Core.List.{List}
-use lib.Dec.{T, eqb, leb, ltb, eqb→eq}
+use lib.Dec.{eqb, leb, ltb, eqb→eq}
 use borrow.Author.Tests.{leb-false, ltb-false}
 use Rattle.numbers.specs.Limits.{mostCharted}
 use Rattle.numbers.proofs.Tests.{left, right, of-true}

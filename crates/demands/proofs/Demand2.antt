@@ -2,7 +2,7 @@
 use Prim.Native.Nat.{ℕ}
 use native.Mathlib.Omega.{arith}
 use mathlib.Core.Path.{_≡_, sym, subst, _∙_}
-use mathlib.Core.List.{List, []}
+use mathlib.Core.List.{List}
 use Rattle.replay.specs.Serial.{Course}
 use Rattle.rules.specs.Report.{Reported}
 use Rattle.rules.specs.Rules.{Answer, reporting, reported, rules, askAnswer}

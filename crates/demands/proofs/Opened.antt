@@ -7,7 +7,7 @@ use mathlib.Core.List.{List}
 use Rattle.contexts.specs.Sitting.{Progress}
 use Rattle.replay.specs.Room.{Desk, closed, opened}
 use Rattle.replay.specs.Table.{answered, NoneApplies}
-use Rattle.replay.specs.Machine.{asking, Call, atDesk, spare, tableAt, askingTable, ownLines, answerAt, verdict}
+use Rattle.replay.specs.Machine.{asking, atDesk, spare, tableAt, askingTable, ownLines, answerAt, verdict}
 use Rattle.replay.proofs.Tables.{no-refusal}
 use Rattle.replay.proofs.Swap.{heard}
 use Rattle.store.specs.Sound.{soundb}
