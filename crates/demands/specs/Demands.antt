@@ -1,4 +1,4 @@
--- THE THREE DEMANDS, of the public functions' own promises (specs/Runs). Each is a statement; proofs/Demands has its proof. Assumes nothing.
+-- THE THREE DEMANDS, of the public functions' own promises (specs/Runs). Each is a statement, proved in proofs/Demand1, Demand2 and Demand3. Assumes nothing.
 use Prim.Native.Nat.{ℕ, _<_}
 use mathlib.Core.Path.{_≡_}
 use mathlib.Core.Bool.{not}
