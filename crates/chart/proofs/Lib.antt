@@ -4,3 +4,4 @@ pub mod Shares
 pub mod Gaps
 pub mod Tables
 pub mod Examples
+pub mod Sayings

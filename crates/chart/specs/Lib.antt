@@ -1,2 +1,3 @@
 pub mod Share
 pub mod Answer
+pub mod Says

@@ -9,11 +9,12 @@ use Rattle.numbers.specs.Limits.{mostSymbols, deepest, desks}
 use Rattle.contexts.specs.Context.{decoded}
 use Rattle.contexts.specs.Keys.{digits, deskSpan, keyOf}
 use Rattle.contexts.proofs.Strings.{context-more}
+use Rattle.contexts.proofs.Codes.{decoded-length}
 use Rattle.contexts.proofs.KeyOrder.{Within, digits-nil, contextKey-lt}
 use Rattle.rules.specs.Question.{isCode}
 use Rattle.charting.specs.declared.Named.the-variants.{Key, NoContext}
 use Rattle.charting.specs.Naming.{named}
-use Rattle.charting.proofs.Digits.{decoded-length, decoded-within, code-older, code-outside, code-none}
+use Rattle.charting.proofs.Digits.{decoded-within, code-older, code-outside, code-none}
 
 -- the last `left` of the context's symbols are still to be read, from the digits of `rest`
 pub record Unread (A d len code key rest left : ℕ) : Type 0 where

@@ -3,7 +3,6 @@ use Prim.Native.Nat.{ℕ, zero, suc, _+_, _*_, _/_, _%_, _≤_, _<_}
 use native.Mathlib.Omega.{arith}
 use mathlib.Core.Path.{_≡_, refl, ap}
 use mathlib.Core.Bool.{Bool, false, _&&_}
-use lib.ListN.{length}
 use lib.Dec.{T, eqb, eqb→eq}
 use borrow.Author.Tests.{lt-ltb, le-ltb}
 use Rattle.numbers.specs.Limits.{mostSymbols}
@@ -13,14 +12,7 @@ use Rattle.contexts.specs.Context.{isContext, codeOf, decoded}
 use Rattle.contexts.proofs.Strings.{context-cons}
 use Rattle.rules.specs.Question.{isCode}
 
--- ---- the context that is read from a code
-
-pub decoded-length : (l c : ℕ) → length (decoded l c) ≡ l
-unfolding decoded
-decoded-length zero c = refl
-decoded-length (suc l) c = ap suc (decoded-length l (c / 8))
-
--- its symbols are octal digits, whatever the code
+-- the symbols of the context that is read from a code are octal digits, whatever the code
 pub decoded-within : (l c : ℕ) → T (isContext mostSymbols l (decoded l c))
 unfolding decoded isContext
 decoded-within zero c = tt

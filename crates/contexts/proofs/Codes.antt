@@ -1,6 +1,6 @@
 -- A row's code reads back as the context that it stands for. Assumes nothing.
 use Prim.Native.Nat.{ℕ, zero, suc, _+_, _*_, _/_, _%_, _^_, _<_}
-use mathlib.Core.Path.{_≡_, refl, ap₂}
+use mathlib.Core.Path.{_≡_, refl, ap, ap₂}
 use mathlib.Core.List.{List, [], _∷_}
 use native.Mathlib.Omega.{arith}
 use native.Mathlib.Nat.{pow-suc}
@@ -9,6 +9,12 @@ use lib.Dec.{T}
 use Rattle.numbers.specs.Limits.{mostSymbols}
 use Rattle.contexts.specs.Context.{isContext, codeOf, decoded}
 use Rattle.contexts.proofs.Strings.{newest-below, older-context}
+
+-- the context read from a code has the length that is asked for
+pub decoded-length : (l c : ℕ) → length (decoded l c) ≡ l
+unfolding decoded
+decoded-length zero c = refl
+decoded-length (suc l) c = ap suc (decoded-length l (c / 8))
 
 pub decoded-code : (d : ℕ) (s : List ℕ) → T (isContext mostSymbols d s) → decoded (length s) (codeOf s) ≡ s
 unfolding decoded codeOf isContext

@@ -21,6 +21,18 @@ eight-at c (suc (suc (suc (suc (suc (suc zero)))))) l = refl
 eight-at c (suc (suc (suc (suc (suc (suc (suc zero))))))) l = refl
 eight-at c (suc (suc (suc (suc (suc (suc (suc (suc a)))))))) l = absurd (omega arith)
 
+-- a symbol that is counted 0 times, or for which there is no place
+pub eight-zero : (c : ℕ → ℕ) (a : ℕ) → c a ≡ 0 → getD (eight c) a 0 ≡ 0
+eight-zero c zero e = e
+eight-zero c (suc zero) e = e
+eight-zero c (suc (suc zero)) e = e
+eight-zero c (suc (suc (suc zero))) e = e
+eight-zero c (suc (suc (suc (suc zero)))) e = e
+eight-zero c (suc (suc (suc (suc (suc zero))))) e = e
+eight-zero c (suc (suc (suc (suc (suc (suc zero)))))) e = e
+eight-zero c (suc (suc (suc (suc (suc (suc (suc zero))))))) e = e
+eight-zero c (suc (suc (suc (suc (suc (suc (suc (suc a)))))))) e = refl
+
 -- a list of eight numbers, one by one
 pub eight-same : (l : List ℕ) → length l ≡ mostSymbols → l ≡ eight (λ a. getD l a 0)
 eight-same l e = ext-getD 0 l (eight (λ a. getD l a 0)) e (λ a h. sym (eight-at (λ b. getD l b 0) a (omega arith)))

@@ -1,12 +1,12 @@
 -- N(s), the sum over the symbols, is the number of counted places that s stands before. Assumes nothing.
 use Prim.Native.Nat.{ℕ, _+_, _≤_}
 use mathlib.Core.Path.{_≡_, refl, ap, _∙_}
-use mathlib.Core.Bool.{Bool, true, false, _&&_, _||_, and-assoc}
+use mathlib.Core.Bool.{Bool, true, false, _&&_, _||_, and-assoc, and-false}
 use mathlib.Core.List.{List, [], _∷_}
 use native.Mathlib.Omega.{arith}
 use lib.ListN.{length}
 use lib.Dec.{T, eqb, ltb, leb}
-use borrow.Author.Tests.{lt-ltb}
+use borrow.Author.Tests.{lt-ltb, ne-eqb}
 use Rattle.numbers.specs.Sum.{one}
 use Rattle.numbers.proofs.Tests.{one-le}
 use Rattle.numbers.proofs.Orders.{eqb-sym}
@@ -32,6 +32,15 @@ total-is-visits A from (x ∷ past) s o =
     (λ a l. rw (and-assoc (leb from (length past)), eqb-sym a x))
     ∙ sum-pick A x (N from past s) (leb from (length past) && begins s past) (newest-below A (length past) x past o)
     ∙ ap (λ (z : ℕ). z + one (leb from (length past) && begins s past)) (total-is-visits A from past s (older-context A (length past) x past o))
+
+-- a symbol that is not of the alphabet is never counted
+pub N-outside : (A from : ℕ) (past s : List ℕ) (a : ℕ) → Over A past → A ≤ a → N from past s a ≡ 0
+unfolding N
+N-outside A from [] s a o h = refl
+N-outside A from (x ∷ past) s a o h =
+    let l = newest-below A (length past) x past o in
+    rw (ne-eqb x a (λ e. omega arith), and-false (begins s past), and-false (leb from (length past)))
+    (let ih = N-outside A from past s a (older-context A (length past) x past o) h in omega arith)
 
 -- a total is at most the sample's length
 pub visits-le : (from : ℕ) (past s : List ℕ) → visits from past s ≤ length past

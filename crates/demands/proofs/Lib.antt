@@ -2,8 +2,13 @@ pub mod Marked
 pub mod Contracts
 pub mod Demand1
 pub mod Estimate
+pub mod Alphabet
+pub mod Opened
+pub mod OwnStrings
 pub mod Demand2
 pub mod Demand3
+pub mod AnyStores
+pub mod Charts
 pub mod Program
 pub mod Possible
 pub mod Replays

@@ -6,17 +6,22 @@ use mathlib.Core.List.{List, reverse, reverse-reverse}
 use lib.ListN.{length}
 use Rattle.contexts.specs.Counts.{N-placed}
 use Rattle.contexts.specs.Sitting.{Sample, first, second}
+use Rattle.contexts.proofs.Totals.{Over}
 use Rattle.replay.specs.Table.{Outcome, refused, answered}
 use Rattle.rules.specs.Feed.{countedFrom}
 use Rattle.printing.specs.declared.Head.{Head}
-use Rattle.sitting_file.specs.Samples.{firstOf, secondOf}
+use Rattle.sitting_file.specs.Format.{readOf}
+use Rattle.sitting_file.specs.Samples.{Below, firstOf, secondOf}
 use Rattle.sitting_file.specs.declared.Shape.{Shape}
+use Rattle.sitting_file.specs.declared.Reading.the-variants.{Accepted}
+use Rattle.sitting_file.proofs.AcceptedFile.{accepted-holds}
 use Rattle.judgement.specs.Judgement.{openingOf, stringsIn, fileSitting, FileReport, judgement}
 use Rattle.judgement.specs.Answers as answers
 use Rattle.judgement.specs.declared.SittingAnswer.the-variants as answer
 use Rattle.judgement.proofs.Texts.{stands}
 use Rattle.demands.specs.Demands.{JointEstimate}
 use Rattle.demands.specs.Program.{sampleIn, OfItsFile, DemandOfProgram}
+use Rattle.demands.proofs.Alphabet.{reverse-over, strings-zero}
 use Rattle.demands.proofs.Estimate.{joint-estimate, counts-by-place}
 
 -- a string is its sample reversed
@@ -24,6 +29,16 @@ back : (file : List ℕ) (shape : Shape) (i : Sample) → reverse (stringsIn fil
 unfolding stringsIn
 back file shape first = reverse-reverse (firstOf file shape)
 back file shape second = reverse-reverse (secondOf file shape)
+
+-- an accepted file's symbols are below A
+below : (file : List ℕ) (shape : Shape) → readOf file ≡ Accepted shape → (i : Sample) → Below (shape .alphabet) (sampleIn file shape i)
+below file shape e first = accepted-holds file shape e .first-below
+below file shape e second = accepted-holds file shape e .second-below
+
+over : (file : List ℕ) (shape : Shape) → readOf file ≡ Accepted shape → (i : Sample) → Over (shape .alphabet) (stringsIn file shape i)
+unfolding stringsIn
+over file shape e first = reverse-over (shape .alphabet) (firstOf file shape) (below file shape e first)
+over file shape e second = reverse-over (shape .alphabet) (secondOf file shape) (below file shape e second)
 
 same-head : {h k : Head} → answer.Reported h ≡ answer.Reported k → h ≡ k
 same-head e = cc
@@ -40,13 +55,17 @@ demand-of-program file store sheet store′ sheet′ head a = go (judgement file
     go (answered x) e r s =
         let k = stands file (length sheet) x e in
         let l = k .limits .alphabet-low in
+        let is : JointEstimate (fileSitting file (x .shape)) (x .report) =
+        subst (JointEstimate (fileSitting file (x .shape))) (sym (k .own)) (joint-estimate (fileSitting file (x .shape)) (omega arith)) in
         record {
           shape = x .shape;
           accepted = k .accepted;
           report = x .report;
-          estimate = subst (JointEstimate (fileSitting file (x .shape))) (sym (k .own)) (joint-estimate (fileSitting file (x .shape)) (omega arith));
+          estimate = is;
           head-is = same-head r;
           rows-are = s;
+          below = below file (x .shape) (k .accepted);
+          zero-above = strings-zero (openingOf (x .shape)) (stringsIn file (x .shape)) (x .report) (over file (x .shape) (k .accepted)) is;
           true-counts = λ i t b.
               counts-by-place (openingOf (x .shape)) (stringsIn file (x .shape)) i t b
               ∙ ap (λ (w : List ℕ). N-placed (countedFrom (openingOf (x .shape))) w (reverse t) b) (back file (x .shape) i);

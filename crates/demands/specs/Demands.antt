@@ -1,4 +1,4 @@
--- THE THREE DEMANDS, of the public functions' own promises (specs/Runs). Each is a statement; proofs/Demand1, Demand2 and Demand3 have their proofs. Assumes nothing.
+-- THE THREE DEMANDS, of the public functions' own promises (specs/Runs). Each is a statement, proved in proofs/Demand1, Demand2 and Demand3. Assumes nothing.
 use Prim.Native.Nat.{ℕ, _<_}
 use mathlib.Core.Path.{_≡_}
 use mathlib.Core.Bool.{not}
@@ -12,7 +12,7 @@ use Rattle.contexts.specs.Sitting.{Sample, Sitting}
 use Rattle.estimate.specs.Trees.{Kind, Triple, In}
 use Rattle.estimate.specs.Score.{worths, score, Best}
 use Rattle.estimate.specs.Ties.{KeepsTies}
-use Rattle.rows.specs.Rows.{rowsOf}
+use Rattle.rows.specs.Rows.{ZeroFrom, rowsOf}
 use Rattle.rows.specs.Members.{member, members, Increasing}
 use Rattle.replay.specs.Room.{Making, Opening}
 use Rattle.replay.specs.Table.{Line, _when_, Outcome, refused, answered, NoneApplies, First, inOrder}
@@ -28,6 +28,7 @@ use Rattle.rules.specs.Feed.{countedFrom}
 use Rattle.rules.specs.Report.{Reported}
 use Rattle.rules.specs.Rules.{Answer, done, reporting, reported, rules}
 use Rattle.rules.specs.Strings.{stringsOf, sittingFor}
+use Rattle.sitting_file.specs.Samples.{Below}
 use Rattle.demands.specs.Runs.{OnSheet, Does, MadeNew, Run}
 
 -- ---- DEMAND 1: "refuses by number under the stated conditions and no others. A refused call changes neither the store nor the sheet."
@@ -76,20 +77,27 @@ pub record JointEstimate (x : Sitting) (r : Reported) : Type 0 where
   pub in-order : Increasing (members (x .symbols) (x .depth) triple)
   pub score-is : r .score ≡ score (x .symbols) (x .depth) (worths x) triple
 
--- the report r at desk d is the one of the strings that the desk's own latest sitting was fed, of the sittings gs of a run
-pub record OfItsStrings (gs : List (Course rules)) (d : ℕ) (r : Reported) : Type 0 where
+-- the strings that the latest sitting at desk d was fed, of the sittings gs of a run
+pub record ItsStrings (gs : List (Course rules)) (d : ℕ) : Type 0 where
   pub course : Course rules
   pub there : latest rules d gs ≡ some course
   -- the opening that it began with, which names A and D
   pub named : Opening
   pub later : List (Told rules)
   pub begun : course .told ≡ record { act = opening named; answer = done } ∷ later
-  -- the strings, most recent symbol first
+  -- the strings, most recent symbol first: every symbol is below A
   pub strings : Sample → List ℕ
   pub fed : strings ≡ stringsOf (asks rules (course .told))
-  pub estimate : JointEstimate (sittingFor named strings) r
+  pub below : (i : Sample) → Below (named .symbols) (strings i)
   -- "every frequency the true count": N(s,a) by place, strings and context oldest first
   pub true-counts : (i : Sample) (s : List ℕ) (a : ℕ) → sittingFor named strings .count i s a ≡ N-placed (countedFrom named) (reverse (strings i)) (reverse s) a
+
+-- the report r at desk d is the one of the strings that the desk's own latest sitting was fed
+pub record OfItsStrings (gs : List (Course rules)) (d : ℕ) (r : Reported) : Type 0 where
+  pub its : ItsStrings gs d
+  pub estimate : JointEstimate (sittingFor (its .named) (its .strings)) r
+  -- "0 for symbols from A up"
+  pub zero-above : ZeroFrom (its .named .symbols) (r .rows)
 
 -- every accepted report among the calls cs, which answered os, is that of its sitting's own strings so far: `before` are the calls before it
 abbrev pub OwnReports : List (Call rules) → List (Outcome Answer) → Type 0

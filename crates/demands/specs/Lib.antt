@@ -3,3 +3,5 @@ pub mod Runs
 pub mod Demands
 pub mod Program
 pub mod Replays
+pub mod AnyStore
+pub mod Charts

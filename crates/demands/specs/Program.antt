@@ -5,12 +5,13 @@ use mathlib.Core.List.{List, reverse}
 use lib.ListN.{length}
 use Rattle.contexts.specs.Counts.{N-placed}
 use Rattle.contexts.specs.Sitting.{Sample, first, second}
+use Rattle.rows.specs.Rows.{ZeroFrom}
 use Rattle.rules.specs.Feed.{countedFrom}
 use Rattle.rules.specs.Report.{Reported}
 use Rattle.calls.specs.Promises.{withRows}
 use Rattle.printing.specs.declared.Head.{Head}
 use Rattle.sitting_file.specs.Format.{readOf}
-use Rattle.sitting_file.specs.Samples.{firstOf, secondOf}
+use Rattle.sitting_file.specs.Samples.{Below, firstOf, secondOf}
 use Rattle.sitting_file.specs.declared.Shape.{Shape}
 use Rattle.sitting_file.specs.declared.Reading.the-variants.{Accepted}
 use Rattle.judgement.specs.Judgement.{openingOf, fileSitting}
@@ -31,6 +32,9 @@ pub record OfItsFile (file sheet : List ℕ) (head : Head) (sheet′ : List ℕ)
   pub estimate : JointEstimate (fileSitting file shape) report
   pub head-is : head ≡ headed shape (length (report .rows)) (report .score)
   pub rows-are : sheet′ ≡ withRows 0 (report .rows) sheet
+  -- every symbol of the samples is below A, and the rows have "0 for symbols from A up"
+  pub below : (i : Sample) → Below (shape .alphabet) (sampleIn file shape i)
+  pub zero-above : ZeroFrom (shape .alphabet) (report .rows)
   -- "every frequency the true count": N(s,a) by place, sample and context oldest first
   pub true-counts : (i : Sample) (s : List ℕ) (a : ℕ) → fileSitting file shape .count i s a ≡ N-placed (countedFrom (openingOf shape)) (sampleIn file shape i) (reverse s) a
 

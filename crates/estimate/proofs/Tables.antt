@@ -12,7 +12,7 @@ use Rattle.contexts.proofs.Tables.{table-count}
 use Rattle.estimate.specs.Trees.{Kind, shared, own}
 use Rattle.estimate.specs.Score.{ofKind, counts, sizeOf, cost}
 use Rattle.estimate.specs.Recursion.{spread, losses}
-use Rattle.estimate.specs.Table.{countsIn, CostsOf, LossesOf}
+use Rattle.estimate.specs.Table.{countsIn, forKind, CostsOf, LossesOf}
 use Rattle.estimate.specs.declared.ByKind.{ByKind}
 use Rattle.estimate.proofs.Spreads.{spread-cong, spread-past}
 
@@ -34,24 +34,18 @@ pub kind-none : (x : Sitting) (k : Kind) (s : List ℕ) (a : ℕ) → ((i : Samp
 kind-none x shared s a e = omega (arith, e first, e second)
 kind-none x (own i) s a e = e i
 
--- a number for each kind, as the code has them
-abbrev pub at : ByKind → Kind → ℕ
-at b shared = b .shared
-at b (own first) = b .first
-at b (own second) = b .second
-
 -- THEOREM. The code's losses of a context's table are the model's
 pub table-losses : (x : Sitting) (s : List ℕ) (costs r : ByKind) → x .symbols ≤ mostSymbols → ((i : Sample) (a : ℕ) → x .symbols ≤ a → x .count i s a ≡ 0)
-    → CostsOf (x .symbols) (x .size first) (x .size second) costs → LossesOf (table x s) costs r → (k : Kind) → at r k ≡ losses x k s
+    → CostsOf (x .symbols) (x .size first) (x .size second) costs → LossesOf (table x s) costs r → (k : Kind) → forKind r k ≡ losses x k s
 table-losses x s costs r few none p l k =
     each k ∙ ap₂ _+_ (price k) (spread-cong mostSymbols (table-counts x s k) ∙ spread-past (x .symbols) mostSymbols (counts x k s) few (λ a h. kind-none x k s a (λ i. none i a h)))
   where
-    price : (k : Kind) → at costs k ≡ cost (x .symbols) (sizeOf x k)
+    price : (k : Kind) → forKind costs k ≡ cost (x .symbols) (sizeOf x k)
     price shared = p .shared
     price (own first) = p .first
     price (own second) = p .second
 
-    each : (k : Kind) → at r k ≡ at costs k + spread mostSymbols (countsIn (table x s) k)
+    each : (k : Kind) → forKind r k ≡ forKind costs k + spread mostSymbols (countsIn (table x s) k)
     each shared = l .shared
     each (own first) = l .first
     each (own second) = l .second

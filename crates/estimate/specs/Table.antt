@@ -13,6 +13,12 @@ use Rattle.estimate.specs.declared.ByKind.{ByKind}
 abbrev pub countsIn : List (List ℕ) → Kind → ℕ → ℕ
 countsIn t k a = ofKind k (λ i. countIn t i a)
 
+-- the number that stands for a kind
+abbrev pub forKind : ByKind → Kind → ℕ
+forKind b shared = b .shared
+forKind b (own first) = b .first
+forKind b (own second) = b .second
+
 -- what a context of each kind costs, where the samples have n and m symbols
 pub record CostsOf (A n m : ℕ) (r : ByKind) : Type 0 where
   pub shared : r .shared ≡ cost A (n + m)

@@ -5,3 +5,4 @@ pub mod Prefixes
 pub mod Walking
 pub mod Scoring
 pub mod Written
+pub mod Zeros

@@ -1,6 +1,7 @@
 -- The rows of a report (document 01, "Report rows"). Assumes nothing.
-use Prim.Native.Nat.{ℕ, zero, suc}
-use mathlib.Core.List.{List, [], _∷_, _++_, map}
+use Prim.Native.Nat.{ℕ, zero, suc, _≤_}
+use mathlib.Core.Path.{_≡_}
+use mathlib.Core.List.{List, [], _∷_, _++_, map, List·Memᴰ}
 use lib.ListN.{length, getD, take, drop}
 use lib.IntN.{ℤ, pos, _+ℤ_}
 use Rattle.numbers.specs.Limits.{mostSymbols, rowWidth}
@@ -20,6 +21,10 @@ pub record Row : Type 0 where
 -- "a shared row has the added counts, an own row those of its sample"
 abbrev pub rowOf : Sitting → Member → Row
 rowOf x p = record { kind = p .kind; context = p .context; counts = eight (counts x (p .kind) (p .context)) }
+
+-- "eight counts (0 for symbols from A up ..)": so it is in each of some rows
+abbrev pub ZeroFrom : ℕ → List Row → Type 0
+ZeroFrom A rs = (r : Row) → List·Memᴰ r rs → (a : ℕ) → A ≤ a → getD (r .counts) a 0 ≡ 0
 
 -- the rows of a triple, in order
 abbrev pub rowsOf : Sitting → Triple → List Row

@@ -16,6 +16,7 @@ use Rattle.estimate.proofs.Agreeing.{same-estimate, same-score}
 use Rattle.rows.specs.Members.{Member, members}
 use Rattle.rows.specs.Rows.{Row, rowOf, rowsOf}
 use Rattle.rows.proofs.Holding.{of-members}
+use Rattle.chart.specs.Answer.{chartOf}
 use Rattle.replay.specs.Room.{Opening}
 use Rattle.rules.specs.Report.{report}
 use Rattle.rules.specs.Strings.{sittingFor, StandsFor}
@@ -27,7 +28,7 @@ module _ (o : Opening) (w : Sample → List ℕ) (p : Progress) (S : StandsFor o
   abbrev y : Sitting
   y = sittingFor o w
 
-  total-same : (i : Sample) (s : List ℕ) → T (isContext (o .symbols) (o .depth) s) → totalIn x i s ≡ totalIn y i s
+  pub total-same : (i : Sample) (s : List ℕ) → T (isContext (o .symbols) (o .depth) s) → totalIn x i s ≡ totalIn y i s
   total-same i s c = sum-cong (o .symbols) (λ a l. S .counts i s a c)
 
   -- "A sitting holds as many contexts as there are strings s with N(s) > 0 in either sample"
@@ -56,3 +57,7 @@ module _ (o : Opening) (w : Sample → List ℕ) (p : Progress) (S : StandsFor o
       (rows-same (members (o .symbols) (o .depth) (estimateOf x)) (λ r m. of-members (o .symbols) (o .depth) (estimateOf x) m .0)
       ∙ ap (rowsOf y) (same-estimate (o .symbols) (o .depth) (p .size) (y .size) (p .count) (y .count) (S .sizes) (S .counts)))
       (same-score (o .symbols) (o .depth) (p .size) (y .size) (p .count) (y .count) (S .sizes) (S .counts))
+
+  -- THEOREM. So is the chart of each context
+  pub own-chart : (s : List ℕ) (a : ℕ) → T (isContext (o .symbols) (o .depth) s) → chartOf x s a ≡ chartOf y s a
+  own-chart s a c = rw (S .counts first s a c, S .counts second s a c, total-same first s c, total-same second s c)

@@ -19,10 +19,10 @@ use Rattle.contexts.specs.Sitting.{Sample, first, second, Sitting, totalIn, eig
 use Rattle.estimate.specs.Trees.{Kind, shared, own, from}
 use Rattle.estimate.specs.Score.{counts, sizeOf, cost}
 use Rattle.estimate.specs.Recursion.{spread, losses}
-use Rattle.estimate.specs.Table.{CostsOf, LossesOf}
+use Rattle.estimate.specs.Table.{forKind, CostsOf, LossesOf}
 use Rattle.estimate.specs.declared.ByKind.{ByKind}
 use Rattle.contexts.proofs.Tables.{eight-at, sum-eight}
-use Rattle.estimate.proofs.Tables.{kind-none, at, table-losses}
+use Rattle.estimate.proofs.Tables.{kind-none, table-losses}
 use Rattle.estimate.proofs.Unseen.{Flat, unseen-losses, unseen-flat}
 use Rattle.records.specs.Records.{width, records, countsOf, lookup}
 use Rattle.records.specs.Held.{held, recordAt, countTable}
@@ -75,15 +75,15 @@ module _ (k : Desk) (n : ℕ) (l : List ℕ) (w : Weighable k n l) where
       all i = sum-eight (sitting .count i s) ∙ sum-past (k .symbols) mostSymbols (sitting .count i s) (w .few) (w .below i s)
 
   module _ (costs : ByKind) (priced : CostsOf (k .symbols) (k .n) (k .m) costs) where
-    pub costs-small : (t : Kind) → at costs t ≤ mostSymbols * topLog
+    pub costs-small : (t : Kind) → forKind costs t ≤ mostSymbols * topLog
     costs-small shared = rw (priced .shared) (price-small (k .symbols) (k .n + k .m) (w .few) (w .sized))
     costs-small (own first) = rw (priced .first) (price-small (k .symbols) (k .n) (w .few) (omega (arith, w .sized)))
     costs-small (own second) = rw (priced .second) (price-small (k .symbols) (k .m) (w .few) (omega (arith, w .sized)))
 
-    pub losses-here : (s : List ℕ) (r : ByKind) → LossesOf (table sitting s) costs r → (t : Kind) → at r t ≡ losses sitting t s
+    pub losses-here : (s : List ℕ) (r : ByKind) → LossesOf (table sitting s) costs r → (t : Kind) → forKind r t ≡ losses sitting t s
     losses-here s r o = table-losses sitting s costs r (w .few) (λ i a h. w .below i s a h) priced o
 
-    costs-are : (t : Kind) → at costs t ≡ cost (k .symbols) (sizeOf sitting t)
+    costs-are : (t : Kind) → forKind costs t ≡ cost (k .symbols) (sizeOf sitting t)
     costs-are shared = priced .shared
     costs-are (own first) = priced .first
     costs-are (own second) = priced .second
@@ -96,7 +96,7 @@ module _ (k : Desk) (n : ℕ) (l : List ℕ) (w : Weighable k n l) where
         all (own first) = omega (arith, w .counted s)
         all (own second) = omega (arith, w .counted s)
 
-    pub small-here : (s : List ℕ) (r : ByKind) → ((t : Kind) → at r t ≡ losses sitting t s) → Small r
+    pub small-here : (s : List ℕ) (r : ByKind) → ((t : Kind) → forKind r t ≡ losses sitting t s) → Small r
     small-here s r e = record { first = rw (e (own first)) (losses-most s (own first)); second = rw (e (own second)) (losses-most s (own second)) }
 
     -- ---- a context that is not held
@@ -115,7 +115,7 @@ module _ (k : Desk) (n : ℕ) (l : List ℕ) (w : Weighable k n l) where
       pub absent-flat : (t : Kind) → Flat (from s (losses sitting) t)
       absent-flat t = unseen-flat sitting t s (λ u a. kind-none sitting t (s ++ u) a (λ i. nothing i u a))
 
-      pub absent-losses : (t : Kind) → at costs t ≡ losses sitting t s
+      pub absent-losses : (t : Kind) → forKind costs t ≡ losses sitting t s
       absent-losses t = costs-are t ∙ sym (unseen-losses sitting t s (λ a. kind-none sitting t s a (λ i. none i a)))
         where
           none : (i : Sample) (a : ℕ) → sitting .count i s a ≡ 0

@@ -9,9 +9,8 @@ use Rattle.contexts.specs.Keys.{keyOf, contextOf}
 use Rattle.contexts.specs.Sitting.{first, second}
 use Rattle.estimate.specs.Trees.{Kind, own}
 use Rattle.estimate.specs.Recursion.{Losses, losses}
-use Rattle.estimate.specs.Table.{LossesOf}
+use Rattle.estimate.specs.Table.{forKind, LossesOf}
 use Rattle.estimate.specs.declared.ByKind.{ByKind}
-use Rattle.estimate.proofs.Tables.{at}
 use Rattle.rows.specs.Walk.{older}
 use Rattle.records.specs.Records.{width, records, keys}
 use Rattle.records.specs.Held.{rank, recordAt, countTable}
@@ -61,10 +60,10 @@ module _ {k : Desk} {costs : ByKind} {n : ℕ} {l old : List ℕ} {c : Context} 
     back : suc (c .left - 1) ≡ c .left
     back = let z = more in omega arith
 
-    less : (i : Kind) → at (children .least) i ≡ sum (k .symbols) (λ b. leastAt (k .symbols) (c .left - 1) f i (older s b))
+    less : (i : Kind) → forKind (children .least) i ≡ sum (k .symbols) (λ b. leastAt (k .symbols) (c .left - 1) f i (older s b))
     less i = t .least i ∙ ap (λ (m : ℕ). sum m (λ b. leastAt (k .symbols) (c .left - 1) f i (older s b))) all
 
-    some : (i : Kind) → at (children .rows) i ≡ sum (k .symbols) (λ b. length (membersAt (k .symbols) (c .left - 1) f i (older s b)))
+    some : (i : Kind) → forKind (children .rows) i ≡ sum (k .symbols) (λ b. length (membersAt (k .symbols) (c .left - 1) f i (older s b)))
     some i = t .rows i ∙ ap (λ (m : ℕ). sum m (λ b. length (membersAt (k .symbols) (c .left - 1) f i (older s b)))) all
 
     pub kept-still : p < length cur
@@ -73,8 +72,8 @@ module _ {k : Desk} {costs : ByKind} {n : ℕ} {l old : List ℕ} {c : Context} 
     pub rows-small : children .rows .first + children .rows .second + 2 < 2 ^ 64
     rows-small = omega (arith, few (own first), few (own second), pow-le (c .left - 1) 6 (omega (arith, q .left-is, q .weighable .shallow)))
       where
-        few : (i : Kind) → at (children .rows) i ≤ 9 * (2 * 8 ^ (c .left - 1))
-        few i = omega (arith, turn-small a (2 * 8 ^ (c .left - 1)) (at (children .rows) i) 0 (omega (arith, q .weighable .few)) (t .rows i) (λ b. members-few (k .symbols) f (q .weighable .few) (c .left - 1) i (older s b)) (omega arith))
+        few : (i : Kind) → forKind (children .rows) i ≤ 9 * (2 * 8 ^ (c .left - 1))
+        few i = omega (arith, turn-small a (2 * 8 ^ (c .left - 1)) (forKind (children .rows) i) 0 (omega (arith, q .weighable .few)) (t .rows i) (λ b. members-few (k .symbols) f (q .weighable .few) (c .left - 1) i (older s b)) (omega arith))
 
     last : (m : ℕ) → a ≡ m → rank (turnKey (k .number) s m) (keys (records n l)) ≡ rank (endOf (k .number) s) (keys (records n l))
     last zero e = absurd (omega (arith, all, q .weighable .some))
@@ -89,7 +88,7 @@ module _ {k : Desk} {costs : ByKind} {n : ℕ} {l old : List ℕ} {c : Context} 
       apart = rw (w .is .onward) (written-apart k n l p (children .next) (splitMark o (children .least)) old cur long (here .0) mark-is (omega (arith, t .onward)) (t .apart));
     })
       where
-        is : (i : Kind) → at o i ≡ f i s
+        is : (i : Kind) → forKind o i ≡ f i s
         is = own-losses v lost
 
         long : n ≤ length cur

@@ -15,7 +15,7 @@ use Rattle.contexts.proofs.KeyOrder.{contextOf-key}
 use Rattle.estimate.specs.Trees.{Kind}
 use Rattle.estimate.specs.Recursion.{Losses, losses}
 use Rattle.estimate.specs.declared.ByKind.{ByKind}
-use Rattle.estimate.proofs.Tables.{at}
+use Rattle.estimate.specs.Table.{forKind}
 use Rattle.rows.specs.Walk.{older}
 use Rattle.records.specs.Records.{records, keys}
 use Rattle.records.specs.Held.{rank, held, Standing, Placed}
@@ -42,8 +42,8 @@ pub record Turn (k : Desk) (n : ℕ) (l : List ℕ) (s : List ℕ) (d p step a c
   pub few : a ≤ k .symbols
   pub long : length cur ≡ length old
   pub child-is : child ≡ keyOf (k .number) s + a * step + 1
-  pub least : (t : Kind) → at (children .least) t ≡ sum a (λ b. leastAt (k .symbols) d (losses (sittingIn k (records n l))) t (older s b))
-  pub rows : (t : Kind) → at (children .rows) t ≡ sum a (λ b. length (membersAt (k .symbols) d (losses (sittingIn k (records n l))) t (older s b)))
+  pub least : (t : Kind) → forKind (children .least) t ≡ sum a (λ b. leastAt (k .symbols) d (losses (sittingIn k (records n l))) t (older s b))
+  pub rows : (t : Kind) → forKind (children .rows) t ≡ sum a (λ b. length (membersAt (k .symbols) d (losses (sittingIn k (records n l))) t (older s b)))
   pub onward : p + 1 ≤ children .next
   pub place : children .next ≡ rank (turnKey (k .number) s a) (keys (records n l))
   pub marked : Marked k n l (p + 1) (children .next) cur
@@ -105,7 +105,7 @@ module _ {k : Desk} {costs : ByKind} {n : ℕ} {l old : List ℕ} {c : Context} 
 
       least-fits : SumFits (children .least) (w .least)
       least-fits = fits-by (children .least) (w .least) (λ i.
-          let h = turn-small a mostLoss (at (children .least) i) (at (w .least) i) (omega (arith, q .weighable .few)) (t .least i) (small i) (rw (g .least i) (small i a)) in
+          let h = turn-small a mostLoss (forKind (children .least) i) (forKind (w .least) i) (omega (arith, q .weighable .few)) (t .least i) (small i) (rw (g .least i) (small i a)) in
           omega arith)
         where
           small : (i : Kind) (b : ℕ) → leastAt (k .symbols) (c .left - 1) f i (older s b) ≤ mostLoss
@@ -113,7 +113,7 @@ module _ {k : Desk} {costs : ByKind} {n : ℕ} {l old : List ℕ} {c : Context} 
 
       rows-fits : SumFits (children .rows) (w .rows)
       rows-fits = fits-by (children .rows) (w .rows) (λ i.
-          let h = turn-small a (2 * 8 ^ (c .left - 1)) (at (children .rows) i) (at (w .rows) i) (omega (arith, q .weighable .few)) (t .rows i) (few i) (rw (g .rows i) (few i a)) in
+          let h = turn-small a (2 * 8 ^ (c .left - 1)) (forKind (children .rows) i) (forKind (w .rows) i) (omega (arith, q .weighable .few)) (t .rows i) (few i) (rw (g .rows i) (few i a)) in
           omega (arith, pow-le (c .left - 1) 6 (omega (arith, q .left-is, q .weighable .shallow))))
         where
           few : (i : Kind) (b : ℕ) → length (membersAt (k .symbols) (c .left - 1) f i (older s b)) ≤ 2 * 8 ^ (c .left - 1)

@@ -14,9 +14,8 @@ use Rattle.contexts.proofs.KeyOrder.{contextOf-key}
 use Rattle.contexts.specs.Sitting.{first, second, table, rowIn, sumOf}
 use Rattle.estimate.specs.Trees.{Kind, shared, own, from}
 use Rattle.estimate.specs.Recursion.{Losses, losses}
-use Rattle.estimate.specs.Table.{LossesOf}
+use Rattle.estimate.specs.Table.{forKind, LossesOf}
 use Rattle.estimate.specs.declared.ByKind.{ByKind}
-use Rattle.estimate.proofs.Tables.{at}
 use Rattle.estimate.proofs.Unseen.{Flat}
 use Rattle.records.specs.Records.{width, records, keys}
 use Rattle.records.specs.Held.{rank, held, recordAt, countTable, Rising, Standing, Placed}
@@ -77,7 +76,7 @@ module _ {k : Desk} {costs : ByKind} {n : ℕ} {l s : List ℕ} {c : Context} {p
       off : held (keyOf (k .number) s) (records n l) ≡ false
       off = subst (λ (z : ℕ). held z (records n l) ≡ false) (q .key-is) absent
 
-      bare : (t : Kind) → at costs t ≡ f t s
+      bare : (t : Kind) → forKind costs t ≡ f t s
       bare = absent-losses k n l (q .weighable) costs (q .priced) s off
 
       unseen : (t : Kind) → Flat (from s f t)
@@ -117,7 +116,7 @@ module _ {k : Desk} {costs : ByKind} {n : ℕ} {l old : List ℕ} {c : Context} 
         second-cost = small (own second);
       }
 
-  pub own-losses : {o : ByKind} → LossesOf (countTable (recordAt p l)) costs o → (t : Kind) → at o t ≡ f q t s
+  pub own-losses : {o : ByKind} → LossesOf (countTable (recordAt p l)) costs o → (t : Kind) → forKind o t ≡ f q t s
   own-losses {o} g = losses-here k n l (q .weighable) costs (q .priced) s o (subst (λ (z : List (List ℕ)). LossesOf z costs o) table-is g)
 
   pub own-small : {o : ByKind} → LossesOf (countTable (recordAt p l)) costs o → Small o
@@ -142,7 +141,7 @@ module _ {k : Desk} {costs : ByKind} {n : ℕ} {l old : List ℕ} {c : Context} 
     apart = written-apart k n l p (r .next) (leafMark o) old old (v .beside) (there .0) mark (omega (arith, w .is .onward)) (apart-none (p + 1) (r .next) old);
   })
     where
-      is : (t : Kind) → at o t ≡ f q t s
+      is : (t : Kind) → forKind o t ≡ f q t s
       is = own-losses lost
 
       mark : leafMark o ≡ markOf (k .symbols) (k .depth) (f q) (getD l (width * p) 0)

@@ -12,9 +12,8 @@ use Rattle.contexts.specs.Keys.{digits, deskSpan, keyOf, contextOf}
 use Rattle.contexts.specs.Sitting.{first, second, rowIn, sumOf}
 use Rattle.estimate.specs.Trees.{Kind}
 use Rattle.estimate.specs.Recursion.{losses}
-use Rattle.estimate.specs.Table.{CostsOf}
+use Rattle.estimate.specs.Table.{forKind, CostsOf}
 use Rattle.estimate.specs.declared.ByKind.{ByKind}
-use Rattle.estimate.proofs.Tables.{at}
 use Rattle.records.specs.Records.{width, records, keys}
 use Rattle.records.specs.Held.{rank, held, recordAt, countTable}
 use Rattle.weighing.specs.declared.Desk.{Desk}
@@ -70,8 +69,8 @@ pub record Apart (p q : ℕ) (before after : List ℕ) : Type 0 where
 
 -- the least loss and the members of each tree at s with d symbols left, the place past its block, and the decisions in between
 pub record Visited (k : Desk) (n : ℕ) (l : List ℕ) (s : List ℕ) (d p : ℕ) (before after : List ℕ) (r : Weighed) : Type 0 where
-  pub least : (t : Kind) → at (r .least) t ≡ leastAt (k .symbols) d (losses (sittingIn k (records n l))) t s
-  pub rows : (t : Kind) → at (r .rows) t ≡ length (membersAt (k .symbols) d (losses (sittingIn k (records n l))) t s)
+  pub least : (t : Kind) → forKind (r .least) t ≡ leastAt (k .symbols) d (losses (sittingIn k (records n l))) t s
+  pub rows : (t : Kind) → forKind (r .rows) t ≡ length (membersAt (k .symbols) d (losses (sittingIn k (records n l))) t s)
   pub past : r .next ≡ rank (endOf (k .number) s) (keys (records n l))
   pub marked : Marked k n l p (r .next) after
   pub apart : Apart p (r .next) before after
@@ -143,8 +142,8 @@ pub record SumFits (x y : ByKind) : Type 0 where
 
 -- no child yet
 pub record NoneOf (next : ℕ) (r : Weighed) : Type 0 where
-  pub least : (t : Kind) → at (r .least) t ≡ 0
-  pub rows : (t : Kind) → at (r .rows) t ≡ 0
+  pub least : (t : Kind) → forKind (r .least) t ≡ 0
+  pub rows : (t : Kind) → forKind (r .rows) t ≡ 0
   pub onward : r .next ≡ next
 
 -- a child more can be added
