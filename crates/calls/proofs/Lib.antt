@@ -3,3 +3,4 @@ pub mod Keeping
 pub mod Running
 pub mod RunSettled
 pub mod FewFeeds
+pub mod OneAnswer
