@@ -4,3 +4,4 @@ pub mod Running
 pub mod RunSettled
 pub mod FewFeeds
 pub mod Reporting
+pub mod OneAnswer

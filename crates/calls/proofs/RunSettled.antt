@@ -16,29 +16,40 @@ use Rattle.calls.proofs.Running.{room-moved, ran-start, ran-refused, ra
 
 -- ---- two results that the promise allows
 
-pub record SameRun (n m : ℕ) (o o′ : Outcome Answer) (x y : List ℕ) : Type 0 where
+pub record SameRun (before : List ℕ) (n m : ℕ) (o o′ : Outcome Answer) (x y : List ℕ) : Type 0 where
   pub accepted-same : n ≡ m
   pub ending-same : o ≡ o′
   pub meaning-same : meaning x ≡ meaning y
+  pub sound-same : soundb x ≡ soundb y
   pub numbers-none : n ≡ 0 → x ≡ y
+  pub past-same : drop (storeSize (room before)) x ≡ drop (storeSize (room before)) y
   pub length-same : length x ≡ length y
 
 -- THEOREM. Whatever a run's promise allows has one answer and one meaning, and the numbers themselves where no feed was accepted
 pub runs-settled : (s : List ℕ) (d k : ℕ) (symbols : List ℕ) (n m : ℕ) (o o′ : Outcome Answer) (x y : List ℕ)
-    → Runs s d k symbols n o x → Runs s d k symbols m o′ y → SameRun n m o o′ x y
+    → Runs s d k symbols n o x → Runs s d k symbols m o′ y → SameRun s n m o o′ x y
 runs-settled s d k symbols n m o o′ x y p q = go (soundb s) refl
   where
     none : n ≡ m → n ≡ 0 → x ≡ y
     none e z = p .none-stays z ∙ sym (q .none-stays (sym e ∙ z))
 
-    made : n ≡ m → o ≡ o′ → meaning x ≡ meaning y → SameRun n m o o′ x y
-    made e f g = record { accepted-same = e; ending-same = f; meaning-same = g; numbers-none = none e; length-same = p .length-stays ∙ sym (q .length-stays) }
+    made : n ≡ m → o ≡ o′ → meaning x ≡ meaning y → soundb x ≡ soundb y → SameRun s n m o o′ x y
+    made e f g t = record {
+      accepted-same = e;
+      ending-same = f;
+      meaning-same = g;
+      sound-same = t;
+      numbers-none = none e;
+      past-same = p .past-stays ∙ sym (q .past-stays);
+      length-same = p .length-stays ∙ sym (q .length-stays);
+    }
 
-    go : (b : Bool) → soundb s ≡ b → SameRun n m o o′ x y
-    go true h = made (p .accepts h ∙ sym (q .accepts h)) (p .ends h ∙ sym (q .ends h)) (p .moves h ∙ sym (q .moves h))
+    go : (b : Bool) → soundb s ≡ b → SameRun s n m o o′ x y
+    go true h = made (p .accepts h ∙ sym (q .accepts h)) (p .ends h ∙ sym (q .ends h)) (p .moves h ∙ sym (q .moves h)) (p .stays-sound h ∙ sym (q .stays-sound h))
     go false h =
         let e : n ≡ m = p .unsound h .0 ∙ sym (q .unsound h .0) in
-        made e (p .unsound h .1 ∙ sym (q .unsound h .1)) (ap meaning (none e (p .unsound h .0)))
+        let l : x ≡ y = none e (p .unsound h .0) in
+        made e (p .unsound h .1 ∙ sym (q .unsound h .1)) (ap meaning l) (ap soundb l)
 
 -- ---- single feeds, one after the other
 

@@ -18,7 +18,7 @@ use Rattle.contexts.proofs.Followed.{context-take}
 use Rattle.records.specs.Records.{width, records, keys, countsOf, lookup}
 use Rattle.records.specs.Held.{rank, keep, ofDesk, without, Standing}
 use Rattle.records.specs.Fed.{missing, Askable, Feedable}
-use Rattle.records.specs.Located.{Located}
+use Rattle.records.specs.Located.{Seeks}
 use Rattle.records.proofs.Parts.{length-parts}
 use Rattle.records.proofs.Rising.{rank-mono, rank-same, length-keys, rank-length}
 use Rattle.records.proofs.Finding.{lookup-each}
@@ -79,9 +79,9 @@ module _ (s : List ℕ) (d : ℕ) (r : List ℕ) where
   pub lent-askable : Askable d r (used s) (drop headerSize s) → Askable d r (used s) (lent s)
   lent-askable q = rw (tail-lent headerSize s) q
 
-  pub located-in : (m : ℕ) (places : List ℕ) → Located d r (records (used s) (lent s)) m places → Located d r (recordsIn s) m places
+  pub sought-in : (m : ℕ) (places : List ℕ) → Seeks d r (records (used s) (lent s)) m places → Seeks d r (recordsIn s) m places
   unfolding recordsIn
-  located-in m places at = rw (tail-lent headerSize s) at at
+  sought-in m places at = rw (tail-lent headerSize s) at at
 
 -- what the missing contexts are judged by
 module _ (s : List ℕ) (d : ℕ) (r : List ℕ) (m : ℕ) (places : List ℕ) (f : Found s d r m places) where

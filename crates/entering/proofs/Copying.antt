@@ -20,9 +20,18 @@ module _ (s : List ℕ) (d k : ℕ) (h : soundb s ≡ true) (o : Open s d) (one 
   pub six-asked : 16 + 32 * d + (6 + 6 * k) + deepest ≤ length s
   six-asked = omega (arith, header-long s h, o .desk)
 
+  -- how many there are, and the six places themselves
+  abbrev pub Copied : ℕ → List ℕ → Type 0
+  Copied many slots = (many ≡ min (sizeAt s d (sampleOf k)) (depthAt s d)) × (slots ≡ slotsAt s d (sampleOf k))
+
   pub copied : (size depth many : ℕ) (slots : List ℕ) → size ≡ field s d (4 + k) → depth ≡ field s d 2 → many ≡ min size depth
-      → slots ≡ take deepest (drop (16 + 32 * d + (6 + 6 * k)) s) → (many ≤ length slots) × (take many slots ≡ recentAt s d (sampleOf k))
-  copied size depth many slots e f g q =
-      let n : many ≡ min (sizeAt s d (sampleOf k)) (depthAt s d) = g ∙ ap₂ min (e ∙ ap (field s d) (size-number k one)) f in
-      let six : slots ≡ slotsAt s d (sampleOf k) = q ∙ ap (λ (y : ℕ). take deepest (drop (deskStart d + y) s)) (recent-number k one) in
+      → slots ≡ take deepest (drop (16 + 32 * d + (6 + 6 * k)) s) → Copied many slots
+  copied size depth many slots e f g q = (
+    g ∙ ap₂ min (e ∙ ap (field s d) (size-number k one)) f,
+    q ∙ ap (λ (y : ℕ). take deepest (drop (deskStart d + y) s)) (recent-number k one),
+  )
+
+  -- the first so many of them are the symbols that the next one follows
+  pub copied-recent : (many : ℕ) (slots : List ℕ) → Copied many slots → (many ≤ length slots) × (take many slots ≡ recentAt s d (sampleOf k))
+  copied-recent many slots (n, six) =
       (rw (six, slots-long s d (sampleOf k) (o .desk) (header-long s h)) (omega (arith, n, sound-stands s h .depth d o)), ap₂ take n six)

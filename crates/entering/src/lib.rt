@@ -9,8 +9,8 @@ ghost use Rattle.contexts.specs.Sitting.{sampleOf};
 ghost use Rattle.records.specs.Records.{records};
 ghost use Rattle.records.specs.Held.{keep, ofDesk};
 ghost use Rattle.records.specs.Fed.{Askable};
-ghost use Rattle.records.specs.Located.{Located};
-ghost use Rattle.store.specs.Layout.{headerSize, used, reserveAt, recordsIn};
+ghost use Rattle.records.specs.Located.{Located, Seeks};
+ghost use Rattle.store.specs.Layout.{headerSize, used, depthAt, reserveAt, sizeAt, slotsAt, recordsIn};
 ghost use Rattle.store.specs.Sound.{soundb, heldBy};
 ghost use Rattle.store.specs.Plain.{Open};
 ghost use Rattle.changes.specs.FedStore.{shifted, recentAt, Acceptable, FedStore};
@@ -41,7 +41,7 @@ pub struct Latest {
 // Copies the up to D most recent symbols of a sample.
 pub fn recent_of(store: &[u32], desk: u32, sample: u32) -> Latest
     requires { ⌜ (soundb (now store) ≡ true) × Open (now store) desk × (sample ≤ 1) ⌝ }
-    ensures { λ r. ⌜ (r .many ≤ length (r .symbols)) × (take (r .many) (r .symbols) ≡ recentAt (now (store .entry)) desk (sampleOf sample)) ⌝ }
+    ensures { λ r. ⌜ (r .many ≡ min (sizeAt (now (store .entry)) desk (sampleOf sample)) (depthAt (now (store .entry)) desk)) × (r .symbols ≡ slotsAt (now (store .entry)) desk (sampleOf sample)) ⌝ }
 {
     let d = desk as usize;
     let i = sample as usize;
@@ -83,7 +83,7 @@ fn six_from(store: &[u32], at: usize) -> [u32; 6]
 // Where the contexts of a symbol that follows `recent` stand among the store's records.
 pub fn seek_in(store: &[u32], desk: u32, recent: &[u32]) -> Sought
     requires { ⌜ (soundb (now store) ≡ true) × Askable desk (now recent) (used (now store)) (drop headerSize (now store)) ⌝ }
-    ensures { λ r. ⌜ Located desk (now (recent .entry)) (recordsIn (now (store .entry))) (r .found) (r .places) ⌝ }
+    ensures { λ r. ⌜ Seeks desk (now (recent .entry)) (recordsIn (now (store .entry))) (r .found) (r .places) ⌝ }
 {
     let many = store[USED] as usize;
     seek(&store[HEADER..], many, desk, recent)

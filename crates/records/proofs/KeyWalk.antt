@@ -5,6 +5,7 @@ use Prim.Native.Nat.{ℕ, zero, suc, _+_, _-_, _*_, _/_, _^_, _≤_, _<_}
 use native.Mathlib.Numerals.{add-one}
 use native.Mathlib.Omega.{arith}
 use native.Mathlib.Nat.{pow-suc}
+use borrow.Author.Tests.{lt-ltb}
 use lib.ListN.{length, take, getD}
 use lib.Seq.{take-length}
 use Rattle.numbers.specs.Limits.{mostSymbols, deepest, desks}
@@ -13,6 +14,7 @@ use Rattle.contexts.specs.Keys.{deskSpan, keyOf}
 use Rattle.contexts.proofs.Strings.{context-length}
 use Rattle.contexts.proofs.KeyOrder.{Within, digits-nil, contextKey-lt, key-step}
 use Rattle.contexts.proofs.Followed.{context-take}
+use Rattle.records.specs.Located.{longerKey}
 
 -- ---- longer contexts have greater keys
 
@@ -67,9 +69,12 @@ module _ (d : ℕ) (r : List ℕ) (small : d < desks) (c : Within r) (key weight
       let less = contextKey-lt (take (suc j) r) (context-take mostSymbols deepest (suc j) r c) in
       omega (arith, next h .0, less, small)
 
-  pub walk-on : (key′ : ℕ) → j ≤ length r → (j < length r → key′ ≡ key + (getD r j 0 * weight + 1)) → Walk d r key′ (weight / 8) (j + 1)
+  pub walk-on : (key′ : ℕ) → j ≤ length r → key′ ≡ longerKey key weight r j → Walk d r key′ (weight / 8) (j + 1)
   walk-on key′ on e = record {
     within = omega arith;
-    key-is = λ h. let inside : j < length r = omega arith in e inside ∙ next inside .0 ∙ ap (λ (z : ℕ). keyOf d (take z r)) (sym (add-one j));
+    key-is = λ h.
+        let inside : j < length r = omega arith in
+        let now : longerKey key weight r j ≡ key + (getD r j 0 * weight + 1) = rw (lt-ltb j (length r) inside) in
+        e ∙ now ∙ next inside .0 ∙ ap (λ (z : ℕ). keyOf d (take z r)) (sym (add-one j));
     weight-is = λ h. next (omega arith) .1;
   }

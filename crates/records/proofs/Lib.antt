@@ -9,3 +9,4 @@ pub mod Counting
 pub mod Keeping
 pub mod KeyWalk
 pub mod Seeking
+pub mod Settled

@@ -1,19 +1,19 @@
 -- The loop of `seek`: the contexts that are shorter than j are held, at their places. Assumes nothing.
-use mathlib.Core.Path.{_≡_, sym, ap, subst, _∙_}
+use mathlib.Core.Path.{_≡_, refl, sym, ap, subst, _∙_}
 use mathlib.Core.Bool.{true, false}
 use mathlib.Core.List.{List, [], _∷_}
-use Prim.Native.Nat.{ℕ, suc, _+_, _*_, _≤_, _<_, suc-le-suc}
+use Prim.Native.Nat.{ℕ, zero, suc, _+_, _*_, _≤_, _<_, suc-le-suc}
 use native.Mathlib.Omega.{arith}
 use borrow.Author.Tests.{lt-ltb, le-ltb, ne-eqb}
 use lib.Dec.{T}
-use lib.ListN.{length, take, getD, set}
+use lib.ListN.{length, take, getD, set, replicate, length-set}
 use lib.Seq.{getD-set-same, getD-set-other}
 use Rattle.numbers.proofs.Orders.{less, same, more, order}
 use Rattle.contexts.specs.Keys.{keyOf}
 use Rattle.records.specs.Records.{width, records, key, keys, rises}
 use Rattle.records.specs.Held.{rank, held, Rising, Placed, Onward}
 use Rattle.records.specs.Fed.{Askable}
-use Rattle.records.specs.Located.{Located}
+use Rattle.records.specs.Located.{Seeks}
 use Rattle.records.proofs.Parts.{length-parts}
 use Rattle.records.proofs.Rising.{rises-rest, key-at, rank-same, above-middle}
 use Rattle.records.proofs.Finding.{held-none}
@@ -46,19 +46,37 @@ pub record Passed (d : ℕ) (r : List ℕ) (rs : List (List ℕ)) (places : List
   pub are-held : (k : ℕ) → k < j → held (keyOf d (take k r)) rs ≡ true
   pub stand-at : (k : ℕ) → k < j → getD places k 0 ≡ rank (keyOf d (take k r)) (keys rs)
   pub no-later : j ≤ length r → from ≤ rank (keyOf d (take j r)) (keys rs)
+  pub seven : length places ≡ 7
+  pub others : (k : ℕ) → j ≤ k → getD places k 0 ≡ 0
 
-pub passed-start : (d : ℕ) (r : List ℕ) (rs : List (List ℕ)) (places : List ℕ) → Passed d r rs places 0 0
-passed-start d r rs places = record { are-held = λ k h. absurd (omega arith); stand-at = λ k h. absurd (omega arith); no-later = λ h. omega arith }
+-- no number of a list of zeros is another
+zero-at : (n k : ℕ) → _≡_ {A = ℕ} (getD (replicate n 0) k 0) 0
+zero-at zero k = refl
+zero-at (suc n) zero = refl
+zero-at (suc n) (suc k) = zero-at n k
+
+pub passed-start : (d : ℕ) (r : List ℕ) (rs : List (List ℕ)) → Passed d r rs (replicate 7 0) 0 0
+passed-start d r rs = record {
+  are-held = λ k h. absurd (omega arith);
+  stand-at = λ k h. absurd (omega arith);
+  no-later = λ h. omega arith;
+  seven = refl;
+  others = λ k h. zero-at 7 k;
+}
 
 module _ (d : ℕ) (r : List ℕ) (n : ℕ) (l : List ℕ) (q : Askable d r n l) (places : List ℕ) (key weight from j : ℕ) (w : Walk d r key weight j)
     (p : Passed d r (records n l) places from j) where
   -- all were found
-  pub located-all : length r < j → Located d r (records n l) j places
+  pub located-all : length r < j → Seeks d r (records n l) j places
   located-all h = record {
-    within = w .within;
-    are-held = p .are-held;
-    next-missing = λ g. absurd (omega arith);
-    stand-at = λ k g m. p .stand-at k (omega arith);
+    located = record {
+      within = w .within;
+      are-held = p .are-held;
+      next-missing = λ g. absurd (omega arith);
+      stand-at = λ k g m. p .stand-at k (omega arith);
+    };
+    seven = p .seven;
+    others = λ k g. p .others k (omega (arith, w .within));
   }
 
   module _ (on : j ≤ length r) where
@@ -79,13 +97,15 @@ module _ (d : ℕ) (r : List ℕ) (n : ℕ) (l : List ℕ) (q : Askable d r n l)
         | more g ↦ absurd (omega arith)
       ]
 
+      rest : (k : ℕ) → j < k → getD (set places j at) k 0 ≡ 0
+      rest k h = getD-set-other places j k at 0 (λ e. omega arith) ∙ p .others k (omega arith)
+
       -- the next one is missing
-      pub located-here : held key (records n l) ≡ false → Located d r (records n l) j (set places j at)
+      pub located-here : held key (records n l) ≡ false → Seeks d r (records n l) j (set places j at)
       located-here h = record {
-        within = w .within;
-        are-held = p .are-held;
-        next-missing = λ g. rw key-now at h;
-        stand-at = λ k g m. stand k g;
+        located = record { within = w .within; are-held = p .are-held; next-missing = λ g. rw key-now at h; stand-at = λ k g m. stand k g };
+        seven = length-set places j at ∙ p .seven;
+        others = λ k g. rest k (omega arith);
       }
 
       -- .. or is held
@@ -107,4 +127,10 @@ module _ (d : ℕ) (r : List ℕ) (n : ℕ) (l : List ℕ) (q : Askable d r n l)
             omega arith
 
         pub passed-on : Passed d r (records n l) (set places j at) (at + 1) (j + 1)
-        passed-on = record { are-held = held-to; stand-at = λ k g. stand k (omega arith); no-later = later }
+        passed-on = record {
+          are-held = held-to;
+          stand-at = λ k g. stand k (omega arith);
+          no-later = later;
+          seven = length-set places j at ∙ p .seven;
+          others = λ k g. rest k (omega arith);
+        }

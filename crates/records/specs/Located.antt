@@ -1,10 +1,10 @@
 -- Where the contexts that a fed symbol follows stand among the records. Assumes nothing.
 use mathlib.Core.Path.{_≡_}
-use mathlib.Core.Bool.{true, false}
+use mathlib.Core.Bool.{true, false, cond}
 use mathlib.Core.List.{List, [], _∷_, _++_}
-use Prim.Native.Nat.{ℕ, _+_, _-_, _*_, _%_, _≤_, _<_}
+use Prim.Native.Nat.{ℕ, min, _+_, _-_, _*_, _%_, _≤_, _<_}
 use lib.ListN.{length, take, drop, getD}
-use lib.Dec.{T}
+use lib.Dec.{T, ltb}
 use Rattle.numbers.specs.Limits.{mostSymbols, deepest, desks}
 use Rattle.contexts.specs.Context.{isContext}
 use Rattle.contexts.specs.Keys.{keyOf}
@@ -19,6 +19,16 @@ pub record Located (d : ℕ) (recent : List ℕ) (rs : List (List ℕ)) (m : ℕ
   pub are-held : (j : ℕ) → j < m → held (keyOf d (take j recent)) rs ≡ true
   pub next-missing : m ≤ length recent → held (keyOf d (take m recent)) rs ≡ false
   pub stand-at : (j : ℕ) → j ≤ m → j ≤ length recent → getD places j 0 ≡ rank (keyOf d (take j recent)) (keys rs)
+
+-- what seeking them answers: where they stand, and 0 at those of the seven places that no context up to the first missing one has
+pub record Seeks (d : ℕ) (recent : List ℕ) (rs : List (List ℕ)) (m : ℕ) (places : List ℕ) : Type 0 where
+  pub located : Located d recent rs m places
+  pub seven : length places ≡ 7
+  pub others : (j : ℕ) → min m (length recent) < j → getD places j 0 ≡ 0
+
+-- the key of the context that is longer by the recent symbol at a place, which weighs so much; the key itself where no symbol is there
+abbrev pub longerKey : ℕ → ℕ → List ℕ → ℕ → ℕ
+longerKey k weighs recent place = cond (ltb place (length recent)) (k + (getD recent place 0 * weighs + 1)) k
 
 -- no record has a key from k to k′
 abbrev pub Clear : ℕ → ℕ → List (List ℕ) → Type 0

@@ -6,7 +6,7 @@ ghost use Rattle.numbers.specs.Limits.{mostSymbols};
 ghost use Rattle.records.specs.Records.{width, records, lookup};
 ghost use Rattle.records.specs.Held.{held, recordAt, countTable, Standing, Placed, Bounded, Onward};
 ghost use Rattle.records.specs.Fed.{Askable};
-ghost use Rattle.records.specs.Located.{Located};
+ghost use Rattle.records.specs.Located.{Seeks, longerKey};
 
 // How many numbers a record has.
 pub const WIDTH: usize = 24;
@@ -21,6 +21,7 @@ pub const DESK_SPAN: u32 = 2097152;
 pub const NEWEST: u32 = 262144;
 
 // Where the contexts that a symbol follows stand: how many of them are held, and their places. Where one is not held, its place comes after those.
+// The other places are 0.
 pub struct Sought {
     pub found: usize,
     pub places: [usize; 7],
@@ -63,7 +64,7 @@ pub fn place_from(numbers: &[u32], n: usize, from: usize, key: u32) -> usize
 // `recent` are the symbols before it, most recent first.
 pub fn seek(numbers: &[u32], n: usize, desk: u32, recent: &[u32]) -> Sought
     requires { ⌜ Askable desk (now recent) n (now numbers) ⌝ }
-    ensures { λ r. ⌜ Located desk (now (recent .entry)) (records n (now (numbers .entry))) (r .found) (r .places) ⌝ }
+    ensures { λ r. ⌜ Seeks desk (now (recent .entry)) (records n (now (numbers .entry))) (r .found) (r .places) ⌝ }
 {
     let mut places = [0usize; 7];
     let mut key = desk * DESK_SPAN;
@@ -144,10 +145,10 @@ pub fn stands(numbers: &[u32], n: usize, at: usize, key: u32) -> bool
     false
 }
 
-// The key of a context that is longer by the recent symbol at a place: that symbol's weight, and 1 for the length.
+// The key of a context that is longer by the recent symbol at a place: that symbol's weight, and 1 for the length. The same key where none is there.
 pub fn longer(key: u32, weight: u32, recent: &[u32], place: usize) -> u32
     requires { ⌜ (place < length (now recent) → key + (getD (now recent) place 0 * weight + 1) < 2 ^ 32) ⌝ }
-    ensures { λ r. ⌜ (place < length (now (recent .entry)) → r ≡ key + (getD (now (recent .entry)) place 0 * weight + 1)) ⌝ }
+    ensures { λ r. ⌜ r ≡ longerKey key weight (now (recent .entry)) place ⌝ }
 {
     if place < recent.len() {
         return key + (recent[place] * weight + 1);

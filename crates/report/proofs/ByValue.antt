@@ -25,5 +25,6 @@ module _ (s : List ℕ) (k : Desk) (c : CanReportOn s k) where
       subst (λ (x : Desk). CanWeigh x (used s) (drop headerSize s) kept) (sym (c .is-desk))
       (record { weighable = weighable s (k .number) (c .sound) (c .at-open); beside = let h = few-records in omega arith })
 
-  pub has-weighed : (kept : List ℕ) (r : Least) → Weighs k (used s) (drop headerSize s) kept r → WeighedDesk s (k .number) kept r
-  has-weighed kept r w = weighed-desk s (k .number) (c .sound) (c .at-open) kept r (subst (λ (x : Desk). Weighs x (used s) (drop headerSize s) kept r) (c .is-desk) w)
+  pub has-weighed : (before kept : List ℕ) (r : Least) → Weighs k (used s) (drop headerSize s) before kept r → WeighedDesk s (k .number) kept r
+  has-weighed before kept r w =
+      weighed-desk s (k .number) (c .sound) (c .at-open) before kept r (subst (λ (x : Desk). Weighs x (used s) (drop headerSize s) before kept r) (c .is-desk) w)

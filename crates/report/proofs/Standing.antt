@@ -125,9 +125,9 @@ module _ (s : List ℕ) (d : ℕ) (sound : soundb s ≡ true) (at-desk : Open s 
   }
 
   -- what a weighing says of the desk's sitting
-  pub weighed-desk : (kept : List ℕ) (r : Least) → Weighs (deskIn s d) (used s) (drop headerSize s) kept r → WeighedDesk s d kept r
+  pub weighed-desk : (before kept : List ℕ) (r : Least) → Weighs (deskIn s d) (used s) (drop headerSize s) before kept r → WeighedDesk s d kept r
   unfolding recordsIn strings
-  weighed-desk kept r w = record {
+  weighed-desk before kept r w = record {
     decided = w .decided;
     joint-is = w .joint-least ∙ ap (λ (x : Sitting). joint (symbolsAt s d) (depthAt s d) (losses x)) sitting-is;
     rows-are = w .rows-are ∙ ap (λ (x : Sitting). length (reportOf x)) sitting-is;

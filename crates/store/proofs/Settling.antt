@@ -14,7 +14,7 @@ use Rattle.store.specs.declared.Made.the-variants.{Done, RoomOutside, St
 -- what two makings have in common
 pub record SameMaking (K : ℕ) (a b : Made) (x y : List ℕ) : Type 0 where
   pub answers : a ≡ b
-  pub sounds : a ≡ Done → soundb x ≡ soundb y
+  pub sounds : soundb x ≡ soundb y
   pub meanings : meaning x ≡ meaning y
   pub rests : drop (storeSize K) x ≡ drop (storeSize K) y
   pub lengths : length x ≡ length y
@@ -32,7 +32,7 @@ make-settled K s a b x y m n = elim (done? a) [
       let f : b ≡ Done = sym same ∙ e in
       record {
         answers = same;
-        sounds = λ q. m .sound-after e ∙ sym (n .sound-after f);
+        sounds = m .sound-after e ∙ sym (n .sound-after f);
         meanings = m .means e ∙ sym (n .means f);
         rests = m .rest-kept e ∙ sym (n .rest-kept f);
         lengths = m .length-kept ∙ sym (n .length-kept);
@@ -40,7 +40,7 @@ make-settled K s a b x y m n = elim (done? a) [
       }
   | no e ↦
       let g : x ≡ y = m .refused-kept e ∙ sym (n .refused-kept (λ f. e (same ∙ f))) in
-      record { answers = same; sounds = λ q. absurd (e q); meanings = ap meaning g; rests = ap (drop (storeSize K)) g; lengths = ap length g; refused = λ q. g }
+      record { answers = same; sounds = ap soundb g; meanings = ap meaning g; rests = ap (drop (storeSize K)) g; lengths = ap length g; refused = λ q. g }
 ]
   where
     same : a ≡ b

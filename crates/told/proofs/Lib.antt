@@ -3,3 +3,4 @@ pub mod Numbers
 pub mod Accepted
 pub mod Refused
 pub mod Settled
+pub mod StoresSettled

@@ -1,52 +1,27 @@
--- Whatever the promises for C allow has one number and one set of outputs. Assumes nothing.
+-- Whatever the promises for C allow has one number and one set of outputs: the questions and the reader. Assumes nothing.
 use Prim.Native.Nat.{ℕ, _*_}
 use mathlib.Core.Path.{_≡_, refl, sym, ap, _∙_}
-use mathlib.Core.Bool.{Bool, true, false}
 use mathlib.Core.List.{List}
 use lib.ListN.{length, drop}
 use lib.IntN.{ℤ}
 use lib.Ieee.{Float}
 use Rattle.replay.specs.Table.{Outcome, refused, answered}
-use Rattle.replay.specs.Machine.{Call, atDesk, asking, roomQuestion}
+use Rattle.replay.specs.Machine.{atDesk, asking, roomQuestion}
 use Rattle.numbers.specs.Limits.{rowWidth}
 use Rattle.rows.proofs.Written.{rows-read}
-use Rattle.rules.specs.Rules.{Answer, done, contextsLeft, reported, point, charting, rules}
-use Rattle.store.specs.Sound.{soundb}
-use Rattle.store.specs.Making.{refusalOf}
+use Rattle.rules.specs.Rules.{Answer, done, contextsLeft, reported, point, charting}
 use Rattle.chart.specs.declared.Chart.{Chart}
-use Rattle.calls.specs.Refusals.{outcomeOf, roomOf, writtenOf, endingOf, chartedOf}
+use Rattle.calls.specs.Refusals.{roomOf, writtenOf, chartedOf}
 use Rattle.calls.specs.declared.RoomLeft.{RoomLeft}
 use Rattle.calls.specs.declared.RoomLeft.the-variants as question
 use Rattle.calls.specs.declared.ReportAnswer.{ReportAnswer}
 use Rattle.calls.specs.declared.ReportAnswer.the-variants as written
-use Rattle.calls.proofs.Settled.{moves-settled, asks-settled, reports-settled}
-use Rattle.calls.specs.Run.{Runs}
+use Rattle.calls.proofs.Settled.{asks-settled, reports-settled}
 use Rattle.calls.specs.declared.ChartAnswer.{ChartAnswer}
 use Rattle.calls.specs.declared.ChartAnswer.the-variants as asked
 use Rattle.told.specs.Codes.{toldAs}
 use Rattle.told.specs.Outputs.{leftAfter, rowsAfter, scoreAfter, seenIn, firstIn, secondIn, gapIn, seenAfter, firstAfter, secondAfter, gapAfter}
-use Rattle.told.specs.Told.{MakeTold, MoveTold, RunTold, RoomTold, ReportTold, ReadTold, ChartTold}
-
--- ---- calls that change a store
-pub make-one : {K : ℕ} {s : List ℕ} {r q : ℕ} {x y : List ℕ} → MakeTold K s r x → MakeTold K s q y → r ≡ q
-make-one m n = m .number ∙ ap refusalOf (m .promise .answered ∙ sym (n .promise .answered)) ∙ sym (n .number)
-
-pub move-one : {s : List ℕ} {c : Call rules} {r q : ℕ} {x y : List ℕ} → MoveTold s c r x → MoveTold s c q y → r ≡ q
-move-one {s} {c} {r} {q} {x} {y} m n =
-    m .number ∙ ap toldAs (moves-settled s c (outcomeOf (m .answer)) (outcomeOf (n .answer)) x y (m .promise) (n .promise) .answer) ∙ sym (n .number)
-
-module _ {s symbols : List ℕ} {d k : ℕ} where
-  ends-one : {r q : ℕ} {x y : List ℕ} (o p : Outcome Answer) → Runs s d k symbols r o x → Runs s d k symbols q p y → (r ≡ q) × (o ≡ p)
-  ends-one {r} {q} o p m n = go (soundb s) refl
-    where
-      go : (b : Bool) → soundb s ≡ b → (r ≡ q) × (o ≡ p)
-      go true e = (m .accepts e ∙ sym (n .accepts e), m .ends e ∙ sym (n .ends e))
-      go false e = (m .unsound e .0 ∙ sym (n .unsound e .0), m .unsound e .1 ∙ sym (n .unsound e .1))
-
-  pub run-one : {r q why how : ℕ} {x y : List ℕ} → RunTold s d k symbols r why x → RunTold s d k symbols q how y → (r ≡ q) × (why ≡ how)
-  run-one m n =
-      let e = ends-one (endingOf (m .ending)) (endingOf (n .ending)) (m .promise) (n .promise) in
-      (e .0, m .number ∙ ap toldAs (e .1) ∙ sym (n .number))
+use Rattle.told.specs.Told.{RoomTold, ReportTold, ReadTold, ChartTold}
 
 -- ---- questions: an output is what the outcome has for it, or what stood there
 module _ {B : Type 0} where

@@ -11,3 +11,4 @@ pub mod Steps
 pub mod Turning
 pub mod Turned
 pub mod Whole
+pub mod Settled

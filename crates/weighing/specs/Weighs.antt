@@ -1,5 +1,6 @@
 -- What a weighing of a desk's records promises. Assumes nothing.
 use mathlib.Core.Path.{_≡_}
+use mathlib.Core.Logic.{_≢_}
 use mathlib.Core.List.{List}
 use Prim.Native.Nat.{ℕ, _*_, _≤_, _<_}
 use lib.ListN.{length, getD}
@@ -26,9 +27,12 @@ pub record Decided (k : Desk) (n : ℕ) (l kept : List ℕ) : Type 0 where
       → getD kept j 0 ≡ markOf (k .symbols) (k .depth) (losses (sittingIn k (records n l))) (getD l (width * j) 0)
 
 -- what the trees of the desk's sitting lose at least, each alone and both together, and how many rows its report has
-pub record Weighs (k : Desk) (n : ℕ) (l kept : List ℕ) (r : Least) : Type 0 where
+pub record Weighs (k : Desk) (n : ℕ) (l before kept : List ℕ) (r : Least) : Type 0 where
   pub first-least : r .first ≡ best (k .symbols) (k .depth) (losses (sittingIn k (records n l)) (own first))
   pub second-least : r .second ≡ best (k .symbols) (k .depth) (losses (sittingIn k (records n l)) (own second))
   pub joint-least : r .joint ≡ joint (k .symbols) (k .depth) (losses (sittingIn k (records n l)))
   pub rows-are : r .rows ≡ length (reportOf (sittingIn k (records n l)))
   pub decided : Decided k n l kept
+  -- beside the records of other desks, and past all records, every number is as before
+  pub others-stay : (j : ℕ) → (j < n → deskOf (getD l (width * j) 0) ≢ k .number) → getD kept j 0 ≡ getD before j 0
+  pub length-stays : length kept ≡ length before

@@ -37,7 +37,7 @@ pub struct Least {
 // Weighs the trees of a desk over the first `n` records, and keeps the decision at each of its contexts beside the record.
 pub fn weigh(logs: &[u32], numbers: &[u32], n: usize, desk: Desk, kept: &mut [u8]) -> Least
     requires { ⌜ AreLogs (now logs) × CanWeigh desk n (now numbers) (now kept) ⌝ }
-    ensures { λ r. ⌜ Weighs desk n (now (numbers .entry)) (now (kept .exit)) r ⌝ }
+    ensures { λ r. ⌜ Weighs desk n (now (numbers .entry)) (now (kept .entry)) (now (kept .exit)) r ⌝ }
 {
     let costs = estimate::costs_of(logs, desk.symbols, desk.n, desk.m);
     let key = desk.number * DESK_SPAN;

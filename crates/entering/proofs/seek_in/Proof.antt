@@ -1,7 +1,7 @@
 -- `entering::seek_in` meets its contract. Assumes nothing.
 use native.Mathlib.Omega.{arith}
 use Rattle.store.proofs.Passing.{header-long}
-use Rattle.entering.proofs.Asking.{lent-askable, located-in}
+use Rattle.entering.proofs.Asking.{lent-askable, sought-in}
 use borrow.Author.Needs.{needs}
 use Rattle.entering.proofs.seek_in.Statement.{statement}
 use Rattle.entering.proofs.seek_in.Tie as tie
@@ -30,7 +30,7 @@ seek-requires c κs =
 returns : tie.Need-returns
 returns c =
     let x = c .before .before .before .before .before .args in
-    located-in (x .store .now) (x .desk) (x .recent .now) (c .seek .result .found) (c .seek .result .places) (c .seek .ensures)
+    sought-in (x .store .now) (x .desk) (x .recent .now) (c .seek .result .found) (c .seek .result .places) (c .seek .ensures)
 
 pub seek-in-spec : {M : Type 1} → statement M
 seek-in-spec =

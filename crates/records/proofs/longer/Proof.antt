@@ -1,6 +1,8 @@
 -- `records::longer` meets its contract: where there is a symbol, the longer key fits. Assumes nothing.
 use native.Mathlib.Omega.{arith}
 use borrow.Author.Needs.{needs}
+use borrow.Author.Tests.{lt-ltb, le-ltb}
+use lib.ListN.{length}
 use Rattle.records.proofs.longer.Statement.{statement}
 use Rattle.records.proofs.longer.Tie as tie
 
@@ -20,10 +22,10 @@ add-result-2 : tie.Need-add-result-2
 add-result-2 c = omega (arith, c .before .before .pre (c .before .if1 .taken))
 
 returns : tie.Need-returns
-returns c = search needs
+returns c = let x = c .before .before .args in rw (lt-ltb (x .place) (length (x .recent .now)) (c .before .if1 .taken))
 
 returns-2 : tie.Need-returns-2
-returns-2 c = search needs
+returns-2 c = let x = c .before .args in rw (le-ltb (x .place) (length (x .recent .now)) (c .if1 .left))
 
 pub longer-spec : {M : Type 1} → statement M
 longer-spec =

@@ -1,9 +1,9 @@
 -- `records::seek` meets its contract: the contexts that are shorter than `found` are held, at their places. Assumes nothing.
-use mathlib.Core.Path.{_≡_, refl, sym, _∙_}
+use mathlib.Core.Path.{_≡_, sym, _∙_}
 use Prim.Native.Nat.{_+_, _-_, _≤_, _<_}
 use native.Mathlib.Omega.{arith}
 use borrow.Author.Tests.{not-true, not-false}
-use lib.ListN.{length, length-set}
+use lib.ListN.{length}
 use Rattle.numbers.specs.Limits.{mostSymbols, deepest}
 use Rattle.contexts.proofs.Strings.{context-length}
 use Rattle.records.specs.Records.{records}
@@ -14,7 +14,7 @@ use Rattle.records.proofs.seek.Tie as tie
 
 abbrev Inv-loop : tie.InvT-loop
 Inv-loop l n desk recent places₀ key₀ weight₀ from₀ found₀ places key weight from found =
-    Walk desk recent key weight found × Passed desk recent (records n l) places from found × (length places ≡ 7)
+    Walk desk recent key weight found × Passed desk recent (records n l) places from found
 
 abbrev μ-loop : tie.MeasureT-loop
 μ-loop l n desk recent places₀ key₀ weight₀ from₀ found₀ places key weight from found = length recent + 1 - found
@@ -23,7 +23,7 @@ abbrev μ-loop : tie.MeasureT-loop
 inside : (c : tie.After-place-from Inv-loop μ-loop) → (let at = c .before .before .loop in at .found < length (at .places))
 inside c =
     let start = c .before .before .before .before .before in
-    omega (arith, context-length mostSymbols deepest (start .args .recent .now) (start .pre .context))
+    omega (arith, context-length mostSymbols deepest (start .args .recent .now) (start .pre .context), c .before .before .loop .inv .1 .seven)
 
 mul-key : tie.Need-mul-key Inv-loop μ-loop
 mul-key c = omega arith
@@ -31,7 +31,7 @@ mul-key c = omega arith
 loop-holds : tie.Need-loop-holds Inv-loop μ-loop
 loop-holds c =
     let x = c .before .before .args in
-    (walk-start (x .desk) (x .recent .now), passed-start (x .desk) (x .recent .now) (records (x .n) (x .numbers .now)) _, refl)
+    (walk-start (x .desk) (x .recent .now), passed-start (x .desk) (x .recent .now) (records (x .n) (x .numbers .now)))
 
 place-from-requires : tie.Need-place-from-requires Inv-loop μ-loop
 place-from-requires c κs =
@@ -88,7 +88,6 @@ loop-again c =
       walk-on (x .desk) (x .recent .now) (start .pre .desk) (start .pre .context) (at .key) (at .weight) (at .found) (at .inv .0) (c .longer .result) on (c .longer .ensures),
       passed-on (x .desk) (x .recent .now) (x .n) (x .numbers .now) (start .pre) (at .places) (at .key) (at .weight) (at .from) (at .found) (at .inv .0) (at .inv .1) on
           (inside placed) (placed .place-from .result) (placed .place-from .ensures) (sym (c .before .before .stands .ensures) ∙ not-false _ (c .before .if1 .left)),
-      simp length-set (at .inv .2),
     )
 
 returns-2 : tie.Need-returns-2 Inv-loop μ-loop

@@ -44,8 +44,8 @@ returns : tie.Need-returns
 returns c =
     let s = c .before .before .before .before .before .before .before .before .before in
     let w = c .before .before in
-    has-weighed (s .args .store .now) (s .args .desk) (s .pre .1) (w .weigh .last .1 .1 .1 .1 .0) (w .weigh .result)
-    (subst (λ (l : List ℕ). Weighs (s .args .desk) (used (s .args .store .now)) l (w .weigh .last .1 .1 .1 .1 .0) (w .weigh .result)) (tail-lent headerSize (s .args .store .now)) (w .weigh .ensures))
+    has-weighed (s .args .store .now) (s .args .desk) (s .pre .1) (s .args .kept .now) (w .weigh .last .1 .1 .1 .1 .0) (w .weigh .result)
+    (subst (λ (l : List ℕ). Weighs (s .args .desk) (used (s .args .store .now)) l (s .args .kept .now) (w .weigh .last .1 .1 .1 .1 .0) (w .weigh .result)) (tail-lent headerSize (s .args .store .now)) (w .weigh .ensures))
 
 pub weighed-spec : {M : Type 1} → statement M
 weighed-spec = tie.close (tie.spec shared-slice-read-used cast-used sub-weigh part-weigh-start part-weigh-end weigh-requires same-length returns)

@@ -1,5 +1,5 @@
 -- `weighing::weigh` meets its contract: it is the visit to the empty context, where that is held. Assumes nothing.
-use mathlib.Core.Path.{sym, ap, _∙_}
+use mathlib.Core.Path.{refl, sym, ap, _∙_}
 use mathlib.Core.Logic.{⊎-elim}
 use native.Mathlib.Omega.{arith}
 use lib.ListN.{length}
@@ -45,8 +45,8 @@ returns c =
     let w = s .pre .1 .weighable in
     let at = h .before .place-of .ensures .at in
     ⊎-elim
-    (λ v. weighed w at (v .2 .ensures) (omega (arith, v .2 .kept .1 .1 .0, s .pre .1 .beside)) (v .5) (v .6))
-    (λ v. weighed w at (answer-absent (root-ready w at (o .costs-of .ensures)) (sym (h .stands .ensures) ∙ v .0 .left) (s .args .kept .now) (v .1 .ensures)) (s .pre .1 .beside) (v .2) (v .3))
+    (λ v. weighed w at (v .2 .ensures) (omega (arith, v .2 .kept .1 .1 .0, s .pre .1 .beside)) (v .2 .kept .1 .1 .0) (v .5) (v .6))
+    (λ v. weighed w at (answer-absent (root-ready w at (o .costs-of .ensures)) (sym (h .stands .ensures) ∙ v .0 .left) (s .args .kept .now) (v .1 .ensures)) (s .pre .1 .beside) refl (v .2) (v .3))
     (c .before .before .if1 .came)
 
 pub weigh-spec : {M : Type 1} → statement M
