@@ -2,6 +2,7 @@
 use Prim.Native.Nat.{ℕ}
 use mathlib.Core.Path.{_≡_, sym, subst, _∙_}
 use mathlib.Core.List.{List}
+use lib.ListN.{take}
 use Rattle.store.specs.Sound.{soundb}
 use Rattle.store.specs.Meaning.{meaning}
 use Rattle.sitting_file.specs.Format.{readOf}
@@ -11,7 +12,7 @@ use Rattle.sitting_file.specs.declared.Reading.{Reading}
 use Rattle.sitting_file.specs.declared.Reading.the-variants.{Accepted, Refused}
 use Rattle.printing.proofs.Settled.{printed-settles}
 use Rattle.judgement.specs.Judgement.{sheetNumbers, judgement}
-use Rattle.judgement.specs.Prints.{textOf, Prints}
+use Rattle.judgement.specs.Prints.{textOf, Prints, PrintsInput}
 use Rattle.judgement.specs.Sitting.{runOf, Means}
 use Rattle.judgement.specs.Answers.{answerFor, StoreAfter, Answers}
 use Rattle.judgement.specs.declared.SittingAnswer.{SittingAnswer}
@@ -55,3 +56,9 @@ module _ (file store other lent bytes : List ℕ) (r q : ℕ) (x y sheet sheet�
       let p = printed-settles (textOf (judgement file sheetNumbers)) bytes text text′ r q (a .printed) (b .printed) in
       let told = answerFor (judgement file sheetNumbers) in
       record { count = p .0; bytes-same = p .1; rest = answers-settled file store other lent told told x y sheet sheet′ (a .answers) (b .answers) }
+
+module _ (buffer : List ℕ) (many : ℕ) (store other lent bytes : List ℕ) (r q : ℕ) (x y sheet sheet′ text text′ : List ℕ) where
+  -- THEOREM. .. and so it is with the promise of the input, of the bytes that were read
+  pub input-settled : PrintsInput buffer many store lent bytes r x sheet text → PrintsInput buffer many other lent bytes q y sheet′ text′
+      → SameText (take many buffer) store other r q x y sheet sheet′ text text′
+  input-settled a b = prints-settled (take many buffer) store other lent bytes r q x y sheet sheet′ text text′ (a .first-bytes) (b .first-bytes)

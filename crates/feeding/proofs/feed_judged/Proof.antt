@@ -5,7 +5,7 @@ use lib.ListN.{length, take}
 use lib.Seq.{length-take-le}
 use borrow.Author.Needs.{needs}
 use Rattle.contexts.specs.Sitting.{sampleOf}
-use Rattle.entering.specs.FedStore.{recentAt}
+use Rattle.changes.specs.FedStore.{recentAt}
 use Rattle.entering.proofs.Copying.{copied-recent}
 use Rattle.feeding.proofs.feed_judged.Statement.{statement}
 use Rattle.feeding.proofs.feed_judged.Tie as tie
