@@ -33,11 +33,12 @@ def calls():
     path = os.environ.get("SOBUMIKEYO_SO", OWN)
     if not os.path.isfile(path):
         raise ImportError(f"no library at {path}: build it with bindings/python/build, or name another by SOBUMIKEYO_SO")
-    # calls are short: a PyDLL keeps the interpreter's lock, so that no other thread comes between
-    library = ctypes.PyDLL(os.fspath(path))
-    functions = {}
-    for name, (answer, arguments) in FUNCTIONS.items():
-        function = getattr(library, f"sobumikeyo_{name}")
-        function.restype, function.argtypes = answer, arguments
-        functions[name] = function
+    try:
+        # calls are short: a PyDLL keeps the interpreter's lock, so that no other thread comes between
+        library = ctypes.PyDLL(os.fspath(path))
+        functions = {name: library[f"sobumikeyo_{name}"] for name in FUNCTIONS}
+    except (OSError, AttributeError) as fault:
+        raise ImportError(f"no library of these functions: {fault}") from None
+    for name, function in functions.items():
+        function.restype, function.argtypes = FUNCTIONS[name]
     return functions
