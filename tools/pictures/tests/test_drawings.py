@@ -10,7 +10,7 @@ from pathlib import Path
 from pictures import svg, text
 from pictures.places import text_width
 from pictures.report import Kind, read_names, read_report
-from pictures.tests import ACTS, ALIKE, NAMED, NUMBERED, PICTURE, STORED
+from pictures.tests import ACTS, ALIKE, NAMED, NUMBERED, PICTURE, REPOSITORY, STORED
 from pictures.widths import columns
 
 SVG = "{http://www.w3.org/2000/svg}"
@@ -90,6 +90,14 @@ class Drawings(unittest.TestCase):
                 along = 0.71 * text_width(element.text, float(element.get("font-size")))
                 self.assertLessEqual(float(element.get("x")) + along, width)
                 self.assertGreaterEqual(float(element.get("y")) - along, max(one[3] for one in straight[:10]))
+
+    def test_documents_quote_the_drawing(self):
+        command = ["tools/picture", "samples/one_habit.sitting", "--names", "samples/acts.names"]
+        drawn = subprocess.run(command, cwd=REPOSITORY, capture_output=True, text=True, check=True).stdout
+        for document in ("README.md", "samples/README.md"):
+            told = (REPOSITORY / document).read_text("utf-8")
+            self.assertIn(f"    {' '.join(command)} --svg one_habit.svg\n", told)
+            self.assertIn(f"```\n{drawn}```\n", told)
 
     def test_sitting_files_are_drawn_and_the_drawing_says_by_whom(self):
         with tempfile.TemporaryDirectory() as folder:
