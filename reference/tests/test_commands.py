@@ -71,10 +71,9 @@ class Commands(unittest.TestCase):
             self.assertIn(reason, said)
 
     def test_all_are_here(self):
-        known = subprocess.run(["git", "ls-files", "-s"], cwd=REPOSITORY, capture_output=True, text=True)
-        if known.returncode == 0:
-            files = [line.split("\t") for line in known.stdout.splitlines()]
-            self.assertEqual(sorted(path for mode, path in files if mode.startswith("100755")), sorted(SCRIPTS))
+        folders = [REPOSITORY / name for name in (".ci", "bench", "bindings", "include", "reference", "samples", "tools")]
+        files = [path for folder in folders for path in folder.rglob("*") if path.is_file() and os.access(path, os.X_OK)]
+        self.assertEqual(sorted(str(path.relative_to(REPOSITORY)) for path in files), sorted(SCRIPTS))
         ran = [path.stem for path in REPOSITORY.glob("reference/*.py") if '__name__ == "__main__"' in path.read_text("utf-8")]
         self.assertEqual(sorted(ran), sorted(MODULES))
 

@@ -1,5 +1,6 @@
 """What callers give: whole numbers, runs of them and sheets. What is none of these is told by its argument's name."""
 
+from collections.abc import Mapping, Set
 from ctypes import c_uint32
 from io import IOBase
 from operator import index
@@ -31,8 +32,8 @@ def byte_run(values, name):
 
 
 def listed(values, name):
-    """The elements of a run; text and open files have elements too, but no numbers."""
-    if isinstance(values, (str, IOBase)) or not is_iterable(values):
+    """The elements of a run; text and open files have elements that are no numbers, sets and mappings have no order."""
+    if isinstance(values, (str, IOBase, Set, Mapping)) or not is_iterable(values):
         raise TypeError(f"{name} must be bytes or whole numbers in a row, not {kind_of(values)}")
     return list(values)
 

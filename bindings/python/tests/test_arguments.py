@@ -11,7 +11,7 @@ EMPTY = Context.of([])
 SHEET = array("I", [0] * ROW_WIDTH * 8)
 NO_NUMBERS = (None, "0", b"0", 0.0, [0], {0: 0}, object(), EMPTY)
 OUTSIDE = (-1, 2**32, 2**64, -(2**64), 10**5000)
-NO_RUNS = (None, 5, 0.5, "010", Path("x"), StringIO("010"), BytesIO(b"\0\1"), object())
+NO_RUNS = (None, 5, 0.5, "010", Path("x"), StringIO("010"), BytesIO(b"\0\1"), {0, 1}, {0: 1}, object())
 
 
 def opened():
