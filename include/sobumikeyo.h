@@ -19,8 +19,8 @@
  *
  * One store is used by one call at a time. Threads that share a store, also at
  * different desks, hold a lock of the caller's for each call; without one, two calls
- * at once spoil it (refusal 1 from then on). Only calls that take the store as const
- * may run beside each other. Stores have nothing in common: each may have a thread.
+ * at once may spoil it. Only calls that take the store as const may run beside each
+ * other. Stores have nothing in common: each may have a thread.
  *
  * Link with libsobumikeyo.a. What each function promises is written down in
  * crates/told/specs/Told.antt, and its code is proved to keep it.

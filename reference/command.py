@@ -2,8 +2,11 @@
 
 import argparse
 import os
+import re
 import sys
+from pathlib import Path
 
+REFUSALS = Path(__file__).resolve().parents[1] / "docs" / "REFUSALS.md"
 MOST_BYTES = 2**20  # of a file that is read whole; none that is right comes near it
 
 
@@ -57,6 +60,13 @@ def words_of(fault):
 
 def one_line(words):
     return " ".join(words.split())
+
+
+def refusal(number):
+    """A refusal in words: what happened and what to do, by the table of docs/REFUSALS.md."""
+    rows = re.findall(r"^\| (\d+) \| (.*) \| (.*) \|$", REFUSALS.read_text("utf-8"), re.MULTILINE)
+    words = {int(row): f"{happened} {advice}" for row, happened, advice in rows}
+    return f"refused {number}: {words.get(number, 'docs/REFUSALS.md does not have it')}"
 
 
 def content_of(path):

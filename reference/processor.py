@@ -24,7 +24,7 @@ def toolchain(path):
         return os.environ["RATTLE_HOME"]
     command = shutil.which("rt")
     if command is None:
-        raise Fault(f"{path} is for x86-64: on this processor the toolchain's emulator runs it, and there is no rt on the PATH")
+        raise Fault(f"{path} is for x86-64, and needs the toolchain's emulator here, but there is no rt on the PATH")
     return Path(command).resolve().parents[1]
 
 

@@ -16,7 +16,8 @@ EXAMPLE = bytes.fromhex("020104040001000100000100")
 LONGEST = 60  # seconds
 
 # What takes the path of a file: a command, and its words before the path.
-FILES = [("bench/crates",), ("bench/run",), ("samples/make",), ("tools/picture",), ("tools/picture", "samples/alike.sitting", "--names")]
+FILES = [("bench/crates",), ("bench/run",), ("samples/make",), ("tools/picture",)]
+FILES += [("tools/picture", "samples/alike.sitting", "--names")]
 FILES += [("python3 -m reference.compare", "--program"), ("python3 -m reference.compare", "--scripts")]
 # What a file holds that no command can use.
 CONTENTS = {"empty": b"", "no-text": b"\xff\xfe\x00", "line": b"asks\n", "binary": bytes(range(256))}
@@ -41,8 +42,8 @@ SOURCES = [
     (b"alphabet 2 depth 1 0 x / 1", "'x' is no number"),
     (b"alphabet 2 depth 1 0 -1 / 1", "'-1' is no number"),
     (b"alphabet 2 depth 1 0 / 16384", "'16384' is no number"),
-    (b"alphabet 2 depth 1 0 2 / 1", "the reader refuses it with 15"),
-    (b"alphabet 2 depth 7 0 / 1", "the reader refuses it with 15"),
+    (b"alphabet 2 depth 1 0 2 / 1", "refused 15: A number in the file is outside its limits."),
+    (b"alphabet 2 depth 7 0 / 1", "refused 15: A number in the file is outside its limits."),
 ]
 
 
@@ -54,10 +55,8 @@ def words_of(name):
 
 def run(name, *words, given=b"", output=subprocess.PIPE):
     """What it prints, what it says went wrong, and its status."""
-    outside = {**os.environ, "SOBUMIKEYO_SO": "/nowhere"}
-    done = subprocess.run(
-        [*words_of(name), *words], input=given, stdout=output, stderr=subprocess.PIPE, cwd=REPOSITORY, env=outside, timeout=LONGEST
-    )
+    settings = {"cwd": REPOSITORY, "env": {**os.environ, "SOBUMIKEYO_SO": "/nowhere"}, "timeout": LONGEST}
+    done = subprocess.run([*words_of(name), *words], input=given, stdout=output, stderr=subprocess.PIPE, **settings)
     return (done.stdout or b"").decode(), done.stderr.decode(), done.returncode
 
 

@@ -115,7 +115,7 @@ def read_name(line, place):
         raise Malformed(f"line {place} of the names begins with {called(name[0])}, which stands on no character")
     many = sum(not is_mark(character) for character in name)
     if many > LONGEST_NAME:
-        raise Malformed(f"line {place} of the names has {many} characters, and a name has at most {LONGEST_NAME}: {name[:20]!r}..")
+        raise Malformed(f"line {place} of the names has {many} characters, and a name has at most {LONGEST_NAME}")
     return name
 
 

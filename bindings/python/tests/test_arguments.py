@@ -73,7 +73,8 @@ class Arguments(unittest.TestCase):
             self.wrong_at(ValueError, words, "feed_all", "symbols", value)
 
     def test_symbols_of_many_kinds(self):
-        for symbols in ([0, 1], (0, 1), b"\0\1", bytearray([0, 1]), memoryview(b"\0\1"), array("I", [0, 1]), iter([0, 1]), range(2)):
+        runs = [[0, 1], (0, 1), b"\0\1", bytearray([0, 1]), memoryview(b"\0\1"), array("I", [0, 1]), iter([0, 1]), range(2)]
+        for symbols in runs:
             store = opened()
             store.feed_all(0, Sample.FIRST, symbols)
             self.assertEqual(store.chart(0, EMPTY, 1).first, 0.5)

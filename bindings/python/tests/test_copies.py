@@ -7,8 +7,12 @@ import unittest
 from sobumikeyo import Refusal, Sample, Stopped, Store
 from sobumikeyo.refusals import WORDS
 
-COPIES = [copy.copy, copy.deepcopy]
-COPIES += [lambda value, protocol=protocol: pickle.loads(pickle.dumps(value, protocol)) for protocol in range(pickle.HIGHEST_PROTOCOL + 1)]
+
+def by_pickle(protocol):
+    return lambda value: pickle.loads(pickle.dumps(value, protocol))
+
+
+COPIES = [copy.copy, copy.deepcopy, *map(by_pickle, range(pickle.HIGHEST_PROTOCOL + 1))]
 
 
 class Own(Store):
@@ -47,9 +51,8 @@ class Copies(unittest.TestCase):
                 self.assertEqual(str(run), f"after 5 symbols: {one}")
 
     def test_refusals_that_are_not_known(self):
-        self.assertEqual(
-            str(Refusal(99)), "refused 99: This is no refusal that is known here. See that the library is the one of this module."
-        )
+        words = "refused 99: This is no refusal that is known here. See that the library is the one of this module."
+        self.assertEqual(str(Refusal(99)), words)
         self.assertEqual((repr(Refusal(99)), repr(Stopped(99, 5))), ("Refusal(99)", "Stopped(99, 5)"))
 
     def test_what_calls_raise(self):

@@ -59,7 +59,8 @@ NO_NAMES = [
     ("caf\xe9\ncafe\u0301\n", "two acts have one name"),
 ]
 # What is given as a file: the report, or the names of its acts.
-NO_FILES = [(b"", "empty"), (b"\xff\xfe", "no text in UTF-8, since byte 0 is 0xff"), (b"3 1\xe9", "no text in UTF-8, since byte 3 is 0xe9")]
+NO_FILES = [(b"", "empty"), (b"\xff\xfe", "no text in UTF-8, since byte 0 is 0xff")]
+NO_FILES += [(b"3 1\xe9", "no text in UTF-8, since byte 3 is 0xe9")]
 
 
 def run(*words, given=""):
@@ -96,7 +97,7 @@ class Refused(unittest.TestCase):
             self.assertRegex(said, f"^tools/picture: .*{reason}.*\n$")
 
     def test_the_command_says_why_and_fails(self):
-        self.refused("the program refused 13", given="refused 13\n")
+        self.refused("there is nothing to draw: refused 13: The file ends too early. ", given="refused 13\n")
         with tempfile.TemporaryDirectory() as folder:
             file = Path(folder, "file")
             for path, reason in ((file, "No such file"), (Path(folder), "Is a directory")):
@@ -115,7 +116,7 @@ class Refused(unittest.TestCase):
         self.refused("a report was given", "--program", "/bin/cat", given=GOOD)
         with tempfile.TemporaryDirectory() as folder:
             Path(folder, "short").write_bytes(ALIKE.read_bytes()[:-1])
-            self.refused("the program refused 13", Path(folder, "short"))
+            self.refused("there is nothing to draw: refused 13: The file ends too early. ", Path(folder, "short"))
 
 
 if __name__ == "__main__":
