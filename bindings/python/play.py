@@ -39,6 +39,8 @@ class Player:
 
     def make(self, room, many):
         """A refused making leaves lent what was lent before."""
+        if many > PLAYER_NUMBERS:
+            raise Fault(f"not a script: the player has {PLAYER_NUMBERS} numbers, not {many}")
         before = self.store, self.rest
         self.lend(self.numbers(), many)
         try:
@@ -87,6 +89,8 @@ class Player:
         return " ".join(["chart", who, *(struct.pack(">d", share).hex() for share in chart if share is not None)])
 
     def spoil(self, place, number):
+        if place >= PLAYER_NUMBERS:
+            raise Fault(f"not a script: the player has {PLAYER_NUMBERS} numbers, none at {place}")
         many, numbers = len(self.store.numbers()), self.numbers()
         self.lend(numbers[:place] + (number,) + numbers[place + 1 :], many)
         return "done"
