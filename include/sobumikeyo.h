@@ -17,6 +17,11 @@
  * a pointer and how many elements it has, not how many bytes; no pointer may be
  * null, also where the length is 0. What is written may overlap no other argument.
  *
+ * One store is used by one call at a time. Threads that share a store, also at
+ * different desks, hold a lock of the caller's for each call; without one, two calls
+ * at once may spoil it. Only calls that take the store as const may run beside each
+ * other. Stores have nothing in common: each may have a thread.
+ *
  * Link with libsobumikeyo.a. What each function promises is written down in
  * crates/told/specs/Told.antt, and its code is proved to keep it.
  */

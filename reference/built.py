@@ -4,6 +4,7 @@ import subprocess
 from pathlib import Path
 
 from reference import program
+from reference.command import Fault
 from reference.difference import Difference, demand_equal
 from reference.inputs import damaged_file, drawn_file, fixed_files
 from reference.processor import command
@@ -27,6 +28,8 @@ class Built:
             run = subprocess.run(self.command, input=given, capture_output=True, timeout=LONGEST_RUN)
         except subprocess.TimeoutExpired:
             raise Difference("no end of the run", shown, after=f"{LONGEST_RUN} seconds")
+        except OSError as fault:
+            raise Fault(f"{str(self.command[-1])!r} cannot be run: {fault.strerror}") from None
         if run.returncode != 0:
             raise Difference("exit status", shown, built=run.returncode, errors=run.stderr)
         return run.stdout.decode("ascii", "backslashreplace")

@@ -8,11 +8,13 @@ writes crates/cases/data, args and stdout anew from cases.txt beside this module
 import shutil
 from pathlib import Path
 
+from reference.command import Parser, run
 from reference.program import output
 from reference.sitting_file import write
 
 HERE = Path(__file__).resolve().parent
 CRATE = HERE.parent / "crates" / "cases"
+COMMAND = "python3 -m reference.cases"
 
 
 def cases():
@@ -57,6 +59,7 @@ def printed(files):
 
 
 def main():
+    Parser(COMMAND, __doc__).parse_args()
     files = cases()
     data = CRATE / "data"
     shutil.rmtree(data, ignore_errors=True)
@@ -68,4 +71,4 @@ def main():
 
 
 if __name__ == "__main__":
-    main()
+    run(COMMAND, main)

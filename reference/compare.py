@@ -6,7 +6,6 @@ Prints how many of each kind were compared. At the first difference it prints it
 with 1. A case is fixed by seed, kind and round, so a difference comes again with the same seed.
 """
 
-import argparse
 import sys
 import time
 from collections import Counter
@@ -14,29 +13,34 @@ from random import Random
 
 from reference.built import BuiltProgram, BuiltScripts
 from reference.checks import CHECKS
+from reference.command import Fault, Parser, run
 from reference.difference import Difference
 
 FILES_A_ROUND = 40
 SCRIPTS_A_ROUND = 1
 REPLAYS_A_ROUND = 2
 ROUNDS = ("rounds", "")
+COMMAND = "python3 -m reference.compare"
 
 
 def arguments():
-    parser = argparse.ArgumentParser(prog="python3 -m reference.compare", description=__doc__.split("\n")[0])
+    parser = Parser(COMMAND, __doc__)
     parser.add_argument("--seed", type=int, default=1, help="fixes what is drawn (1)")
     parser.add_argument("--seconds", type=float, default=30, help="rounds are begun for so long (30)")
     parser.add_argument("--program", metavar="PATH", help="the built program that reads a sitting file")
     parser.add_argument("--scripts", metavar="PATH", help="the built program that plays scripts")
-    return parser.parse_args()
+    given = parser.parse_args()
+    if not given.seconds >= 0:
+        raise Fault(f"--seconds is a number from 0 up, not {given.seconds}")
+    return given
 
 
 def drawn_kinds(program, scripts):
     """What is compared in each round, and how often."""
     kinds = list(CHECKS)
-    if program:
+    if program is not None:
         kinds.append((BuiltProgram(program).compare_drawn, FILES_A_ROUND))
-    if scripts:
+    if scripts is not None:
         kinds.append((BuiltScripts(scripts).compare_drawn, SCRIPTS_A_ROUND))
         kinds.append((BuiltScripts(scripts).compare_replay, REPLAYS_A_ROUND))
     return kinds
@@ -45,9 +49,9 @@ def drawn_kinds(program, scripts):
 def compare(seed, seconds, program, scripts, tally):
     """Fixed cases first, then rounds until the time is over; the round in which it ends goes through."""
     end = time.monotonic() + seconds
-    if program:
+    if program is not None:
         BuiltProgram(program).compare_fixed(tally)
-    if scripts:
+    if scripts is not None:
         BuiltScripts(scripts).compare_fixed(tally)
     kinds = drawn_kinds(program, scripts)
     while tally[ROUNDS] == 0 or time.monotonic() < end:
@@ -86,4 +90,4 @@ def main():
 
 
 if __name__ == "__main__":
-    main()
+    run(COMMAND, main)

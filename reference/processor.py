@@ -5,6 +5,8 @@ import platform
 import shutil
 from pathlib import Path
 
+from reference.command import Fault
+
 X86_64 = 62  # as the header of an ELF file has it
 
 
@@ -12,9 +14,18 @@ def command(path):
     """The words that run a program: its own path, or the toolchain's emulator where this processor is another."""
     if platform.machine() == "x86_64" or processor_of(path) != X86_64:
         return [path]
-    kit = os.environ.get("RATTLE_HOME") or Path(shutil.which("rt")).resolve().parents[1]
-    tools = Path(kit, "on", platform.machine(), "toolchain")
+    tools = Path(toolchain(path), "on", platform.machine(), "toolchain")
     return [tools / "bin/qemu-x86_64", tools / "lib/ld-linux-x86-64.so.2", "--library-path", tools / "lib", path]
+
+
+def toolchain(path):
+    """The toolchain's folder, where the emulator for that program is."""
+    if os.environ.get("RATTLE_HOME"):
+        return os.environ["RATTLE_HOME"]
+    command = shutil.which("rt")
+    if command is None:
+        raise Fault(f"{path} is for x86-64, and needs the toolchain's emulator here, but there is no rt on the PATH")
+    return Path(command).resolve().parents[1]
 
 
 def processor_of(path):

@@ -6,6 +6,7 @@
 import sys
 
 from reference.answers import Refused
+from reference.command import Parser, run, standard_input
 from reference.limits import ROW
 from reference.sitting_file import read, samples_of
 from reference.store import Store
@@ -14,6 +15,7 @@ INPUT_BYTES = 2048
 STORE_NUMBERS = 8192
 K = 256
 SHEET_ROWS = 512
+COMMAND = "python3 -m reference.program"
 
 
 def output(file):
@@ -60,5 +62,10 @@ def report_lines(shape, report, sheet):
     return [" ".join(map(str, numbers)) for numbers in [[*shape, *report], *rows]]
 
 
+def main():
+    Parser(COMMAND, __doc__).parse_args()
+    sys.stdout.write(output(standard_input(INPUT_BYTES)))
+
+
 if __name__ == "__main__":
-    sys.stdout.write(output(sys.stdin.buffer.read()))
+    run(COMMAND, main)

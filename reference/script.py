@@ -5,11 +5,11 @@
 
 import re
 import struct
-import sys
 from itertools import islice
 from typing import NamedTuple
 
 from reference.answers import Both, Done, First, Neither, Refused, Report, Room, Second
+from reference.command import Parser, run, standard_input
 from reference.limits import ROW, SAMPLE_LIMIT
 from reference.store import Store
 
@@ -35,10 +35,14 @@ FEEDALL_SYMBOLS = 1024
 BLANK_SHEET = LARGEST  # the sheet is filled with it before each report
 
 UNKNOWN = "unknown"
+COMMAND = "python3 -m reference.script"
 
 
 class BadScript(Exception):
     """The text is not a script; no player promises anything about it."""
+
+    def __str__(self):
+        return f"not a script: {super().__str__()}"
 
 
 class Call(NamedTuple):
@@ -61,7 +65,7 @@ def call(name, *numbers):
 
 def parse(text):
     """The calls of a script: its decimal numbers in order; whatever is not a digit only parts them."""
-    numbers = map(int, re.findall("[0-9]+", text))
+    numbers = map(number_of, re.findall("[0-9]+", text))
     calls = []
     for opcode in numbers:
         if opcode not in CALLS:
@@ -72,6 +76,11 @@ def parse(text):
             taken = taken[:2] + take(numbers, taken[2])
         calls.append(Call(name, tuple(taken)))
     return calls
+
+
+def number_of(word):
+    """A number of 32 bits, or one that is too large, however many digits it has."""
+    return int(word) if len(word.lstrip("0")) <= len(str(LARGEST)) else LARGEST + 1
 
 
 def take(numbers, count):
@@ -183,12 +192,10 @@ def play(text):
 
 
 def main():
-    try:
-        for lines in play(sys.stdin.read()):
-            print("\n".join(lines))
-    except BadScript as fault:
-        sys.exit(f"not a script: {fault}")
+    Parser(COMMAND, __doc__).parse_args()
+    for lines in play(standard_input().decode("ascii", "replace")):
+        print("\n".join(lines))
 
 
 if __name__ == "__main__":
-    main()
+    run(COMMAND, main, BadScript)

@@ -8,10 +8,18 @@ import re
 import struct
 import sys
 from array import array
+from itertools import islice
+from pathlib import Path
 
 from sobumikeyo import ROW_WIDTH, Context, Refusal, Stopped, Store
 
+sys.path.append(str(Path(__file__).resolve().parents[2]))
+
+from reference.command import Fault, Parser, run, standard_input  # noqa: E402 (the path comes first)
+
+COMMAND = "bindings/python/play.py"
 PLAYER_NUMBERS = 100_352
+LONGEST_SHEET = 5_632
 BLANK = 2**32 - 1
 LARGEST_BYTE = 255
 
@@ -31,6 +39,8 @@ class Player:
 
     def make(self, room, many):
         """A refused making leaves lent what was lent before."""
+        if many > PLAYER_NUMBERS:
+            raise Fault(f"not a script: the player has {PLAYER_NUMBERS} numbers, not {many}")
         before = self.store, self.rest
         self.lend(self.numbers(), many)
         try:
@@ -58,6 +68,8 @@ class Player:
     def report(self, desk, sheet_length, place):
         """The answer, the rows as they stand on the sheet, and how many numbers outside them have changed,
         where any have."""
+        if sheet_length > LONGEST_SHEET:
+            raise Fault(f"not a script: a sheet has up to {LONGEST_SHEET} numbers, not {sheet_length}")
         sheet = array("I", [BLANK] * sheet_length)
         try:
             rows, score = self.store.report_on(desk, sheet, place)
@@ -77,6 +89,8 @@ class Player:
         return " ".join(["chart", who, *(struct.pack(">d", share).hex() for share in chart if share is not None)])
 
     def spoil(self, place, number):
+        if place >= PLAYER_NUMBERS:
+            raise Fault(f"not a script: the player has {PLAYER_NUMBERS} numbers, none at {place}")
         many, numbers = len(self.store.numbers()), self.numbers()
         self.lend(numbers[:place] + (number,) + numbers[place + 1 :], many)
         return "done"
@@ -116,21 +130,35 @@ def outside(rest):
     return [f"outside {changed}"] if changed else []
 
 
+def take(script, many):
+    numbers = list(islice(script, many))
+    if len(numbers) < many:
+        raise Fault("not a script: it ends within a call")
+    return numbers
+
+
 def answers(text):
     """The answer of each call of a script, as printed."""
     script = map(int, re.findall("[0-9]+", text))
     player = Player()
     for opcode in script:
+        if opcode >= len(CALLS):
+            raise Fault(f"not a script: no call has the number {opcode}")
         call, many = CALLS[opcode]
-        numbers = [next(script) for _ in range(many)]
+        numbers = take(script, many)
         if call is Player.feed_all:
-            numbers += [next(script) for _ in range(numbers.pop())]
+            numbers += take(script, numbers.pop())
         try:
             yield call(player, *numbers)
         except Refusal as refusal:
             yield f"refused {refusal.number}"
 
 
-if __name__ == "__main__":
-    for answer in answers(sys.stdin.read()):
+def main():
+    Parser(COMMAND, __doc__).parse_args()
+    for answer in answers(standard_input().decode("ascii", "replace")):
         print(answer)
+
+
+if __name__ == "__main__":
+    run(COMMAND, main, ImportError, ValueError)

@@ -6,9 +6,15 @@
 
 import sys
 from array import array
+from pathlib import Path
 
 from sobumikeyo import ROW_WIDTH, Refusal, Sample, Store, read
 
+sys.path.append(str(Path(__file__).resolve().parents[2]))
+
+from reference.command import Parser, run, standard_input  # noqa: E402 (the path comes first)
+
+COMMAND = "bindings/python/sitting.py"
 INPUT_BYTES = 2048
 ROOM = 256
 SHEET_ROWS = 512
@@ -36,5 +42,10 @@ def output(file):
     return "".join(" ".join(map(str, line)) + "\n" for line in lines)
 
 
+def main():
+    Parser(COMMAND, __doc__).parse_args()
+    sys.stdout.write(output(standard_input(INPUT_BYTES)))
+
+
 if __name__ == "__main__":
-    sys.stdout.write(output(sys.stdin.buffer.read()))
+    run(COMMAND, main, ImportError)

@@ -6,14 +6,17 @@ from typing import Optional
 
 from pictures.report import Kind, Row
 from pictures.trees import Leaf, Split, branch_pairs, trees_of
+from pictures.widths import is_mark, is_wide
 
 # How wide a character is, as a part of its size, in a font that is rather wide.
 NARROW, WIDE, DIGIT, CAPITAL, SMALL = 0.42, 1.0, 0.64, 0.76, 0.64
+FULL = 1.3  # a wide character of East Asia, or an emoji
 MARGIN = 24
 TALL, SHORT = 42, 22  # a line with bars, and one whose contexts were never seen
 NEAR = 14  # around marks
 GAP = 30  # between the trees and the columns, at least
 NAME_SIZE = 11
+SLANT = 0.75  # how far up and to the right a tilted name goes, as a part of its width
 
 
 @dataclass
@@ -63,6 +66,8 @@ def text_width(text, size=12):
 
 
 def character_width(character):
+    if is_mark(character) or is_wide(character):
+        return 0 if is_mark(character) else FULL
     if character in " fijlrtI.,:;|'!()":
         return NARROW
     if character in "mwMW%@":
@@ -106,7 +111,8 @@ class Places:
         kinds = [kind for kind in (Kind.FIRST, Kind.SHARED, Kind.SECOND) if report.of_kinds(kind)]
         self.columns = {kind: Column(report.of_kinds(kind), names) for kind in kinds}
         self.tilted = name_width > min(column.step for column in self.columns.values())
-        self.lines_top = head + (0.75 * name_width if self.tilted else 0) + 24
+        self.slant = SLANT * name_width if self.tilted else 0
+        self.lines_top = head + self.slant + 24
         *self.roots, bottom = spots(*trees_of(report), self.lines_top)
         self.step = name_width + 32
         self.height = bottom + MARGIN
@@ -118,11 +124,12 @@ class Places:
         needed = 2 * MARGIN + self.step * sum(depths) + sum(column.width for column in self.columns.values())
         gaps = len(self.columns) + 1
         gap = max(GAP, (least_width - needed) / gaps)
-        self.width = needed + gaps * gap
         left = MARGIN + self.step * depths[0] + gap
         for column in self.columns.values():
             column.left = left
             left = column.right + gap
+        # tilted names lean to the right, and the last ones may lean out further than the second tree is wide
+        self.width = max(needed + gaps * gap, column.total_left + self.slant + MARGIN)
 
     def x(self, side, spot):
         """The first tree grows to the right, the second to the left."""

@@ -3,11 +3,15 @@
 import re
 from enum import IntEnum
 from typing import NamedTuple
+from unicodedata import name as unicode_name
+from unicodedata import normalize
+
+from pictures.widths import is_mark
 
 ALPHABETS = range(2, 9)
 DEPTHS = range(0, 7)
 CODE_BASE = 8
-LONGEST_NAME = 16
+LONGEST_NAME = 40  # characters, marks on others not counted
 ANY_PAST = "any past"  # the empty context in words
 
 
@@ -55,6 +59,8 @@ def read_report(text):
     lines = text.splitlines()
     if not lines:
         raise Malformed("there is nothing to draw: the text is empty")
+    if lines[0].startswith(("#", "alphabet")):
+        raise Malformed("this is the source of a sitting file: samples/make writes the file itself")
     if re.fullmatch(r"refused \d+", lines[0]):
         raise Malformed(f"there is nothing to draw: the program {lines[0]} (docs/REFUSALS.md says what that means)")
     A, D, n, m, many, score = numbers_of(lines[0], 1, ("A", "D", "n", "m", "row count", "score"))
@@ -89,10 +95,32 @@ def numbers_of(line, place, names):
 
 def read_names(text, A):
     """The names of the acts, a line each, symbol 0 first; lines that begin with # are for readers."""
-    names = [line.strip() for line in text.splitlines() if line.strip() and not line.startswith("#")]
+    lines = [(place, line.strip(" ")) for place, line in enumerate(text.split("\n"), start=1) if not line.startswith("#")]
+    names = [read_name(line, place) for place, line in lines if line]
     if len(names) != A:
         raise Malformed(f"the report has {A} symbols, and the file of names has {len(names)} names")
-    for name in names:
-        if len(name) > LONGEST_NAME or not name.isprintable():
-            raise Malformed(f"a name has at most {LONGEST_NAME} characters, and one is {name!r:.80}")
+    for symbol, name in enumerate(names):
+        if name in names[:symbol]:
+            raise Malformed(f"two acts have one name, {name!r}: acts {names.index(name)} and {symbol}")
     return names
+
+
+def read_name(line, place):
+    """A name, as one spelling has it: characters that can be written in two ways are one."""
+    name = normalize("NFC", line)
+    for character in name:
+        if not character.isprintable():
+            raise Malformed(f"line {place} of the names has {called(character)} in it, which cannot be drawn")
+    if is_mark(name[0]):
+        raise Malformed(f"line {place} of the names begins with {called(name[0])}, which stands on no character")
+    many = sum(not is_mark(character) for character in name)
+    if many > LONGEST_NAME:
+        raise Malformed(f"line {place} of the names has {many} characters, and a name has at most {LONGEST_NAME}")
+    return name
+
+
+def called(character):
+    """A character that cannot be drawn, in words."""
+    if character == "\t":
+        return "a tab"
+    return f"the character U+{ord(character):04X} ({unicode_name(character, 'a control character')})"

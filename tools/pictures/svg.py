@@ -18,14 +18,15 @@ NOTES = [
     "The score serves to choose among descriptions of these two strings. It is no mark.",
 ]
 TITLE_BASE, LEGEND_BASE, NOTES_BASE = 34, 60, 84
-HEAD = NOTES_BASE + 16 * len(NOTES) + 8
 
 
-def drawing(report, names):
-    """The whole picture."""
-    least = 2 * MARGIN + max(text_width(note, NAME_SIZE) for note in NOTES)
-    places = Places(report, names, HEAD + 20, least)
-    parts = [*heading(report, places), *sides(places, names), *headers(places, names)]
+def drawing(report, names, source=None):
+    """The whole picture; its last note says where the report came from, where that is known."""
+    notes = [*NOTES, source] if source else NOTES
+    least = 2 * MARGIN + max(text_width(note, NAME_SIZE) for note in notes)
+    head = NOTES_BASE + 16 * len(notes) + 8
+    places = Places(report, names, head + 20, least)
+    parts = [*heading(report, places, notes, head), *sides(places, names), *headers(places, names)]
     for spot in leaves_once(places):
         parts += details(places.columns[spot.row.kind], spot, names)
     size = f'width="{places.width:.0f}" height="{places.height:.0f}" viewBox="0 0 {places.width:.0f} {places.height:.0f}"'
@@ -43,7 +44,7 @@ def counted(many, what):
     return f"{many} {what}" if many == 1 else f"{many} {what}s"
 
 
-def heading(report, places):
+def heading(report, places, notes, head):
     """The title, the legend and what to know for reading."""
     yield words(MARGIN, TITLE_BASE, title(report), size=17, weight="bold")
     x = MARGIN + MARK
@@ -51,9 +52,9 @@ def heading(report, places):
         yield mark(kind, x, LEGEND_BASE - 4)
         yield words(x + NEAR, LEGEND_BASE, name, size=13)
         x += text_width(name, 13) + 3 * NEAR
-    for place, note in enumerate(NOTES):
+    for place, note in enumerate(notes):
         yield faint(MARGIN, NOTES_BASE + 16 * place, note)
-    base = HEAD + 12
+    base = head + 12
     yield words(MARGIN, base, f"first sample, {counted(report.n, 'act')}", size=13, weight="bold")
     yield words(places.width - MARGIN, base, f"second sample, {counted(report.m, 'act')}", size=13, weight="bold", anchor="end")
 

@@ -2,6 +2,7 @@
 
 from pictures.report import Kind
 from pictures.trees import Split, branch_pairs, line_count, trees_of
+from pictures.widths import columns, padded
 
 MARKS = {Kind.SHARED: "○", Kind.FIRST: "■", Kind.SECOND: "▲"}
 BARS = "▁▂▃▄▅▆▇█"
@@ -9,14 +10,15 @@ NO_BAR = "·"
 BETWEEN = "    "
 
 
-def drawing(report, names):
-    """The whole drawing, line by line."""
+def drawing(report, names, source=None):
+    """The whole drawing, line by line; the last says where the report came from, where that is known."""
     first, second = trees_of(report)
     left = ["first sample", *side(first, second, report, names)]
     right = ["second sample", *side(second, first, report, names)]
-    width = max(map(len, left))
-    lines = [one.ljust(width) + BETWEEN + other for one, other in zip(left, right)]
-    return "".join(line.rstrip() + "\n" for line in [*heading(report, names), "", *lines])
+    width = max(map(columns, left))
+    lines = [padded(one, width) + BETWEEN + other for one, other in zip(left, right)]
+    ending = ["", source] if source else []
+    return "".join(line.rstrip() + "\n" for line in [*heading(report, names), "", *lines, *ending])
 
 
 def heading(report, names):
@@ -27,15 +29,15 @@ def heading(report, names):
 
 def side(tree, other, report, names):
     """One tree's lines, as many as both take side by side: its branches, then the leaves one below the other."""
-    lines = branches(tree, other, max(map(len, names)), names)
-    width = max(len(drawn) for drawn, _ in lines)
-    label_width = max(len(row.label(names)) for row in report.rows)
+    lines = branches(tree, other, max(map(columns, names)), names)
+    width = max(columns(drawn) for drawn, _ in lines)
+    label_width = max(columns(row.label(names)) for row in report.rows)
     count_width = max(len(str(count)) for row in report.rows for count in row.counts)
     for drawn, leaf in lines:
         if leaf is None:
             yield drawn
         else:
-            yield f"{drawn.ljust(width, '─' if drawn else ' ')} {leaf_words(leaf.row, names, label_width, count_width)}"
+            yield f"{padded(drawn, width, '─' if drawn else ' ')} {leaf_words(leaf.row, names, label_width, count_width)}"
 
 
 def branches(tree, other, name_width, names):
@@ -48,9 +50,9 @@ def branches(tree, other, name_width, names):
     for symbol, (branch, beside) in enumerate(pairs):
         last = symbol == len(pairs) - 1
         knot = "┬" if symbol == 0 else "└" if last else "├"
-        name = f"─ {names[symbol]} ".ljust(name_width + 3, "─") + "─"
+        name = padded(f"─ {names[symbol]} ", name_width + 3, "─") + "─"
         for place, (rest, leaf) in enumerate(branches(branch, beside, name_width, names)):
-            before = knot + name if place == 0 else (" " if last else "│") + " " * len(name)
+            before = knot + name if place == 0 else (" " if last else "│") + " " * columns(name)
             drawn.append((before + rest if place == 0 or rest else before.rstrip(), leaf))
     return drawn
 
@@ -58,7 +60,7 @@ def branches(tree, other, name_width, names):
 def leaf_words(row, names, label_width, count_width):
     bars = "".join(bar(count, row.total) for count in row.counts)
     counts = " ".join(str(count).rjust(count_width) for count in row.counts)
-    return f"{MARKS[row.kind]} {row.label(names).ljust(label_width)}  {bars}  {counts}"
+    return f"{MARKS[row.kind]} {padded(row.label(names), label_width)}  {bars}  {counts}"
 
 
 def bar(count, total):

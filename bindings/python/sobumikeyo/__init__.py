@@ -15,8 +15,10 @@ contexts that are one sample's own.
 >>> [(row.context.symbols(), row.counts[:2]) for row in report.rows if row.kind is Kind.SHARED]
 [((1,), (5, 0))]
 
-A call that cannot do what it was asked raises a Refusal and changes nothing. Every call is one of
-the C library's functions, whose code is proved; what they promise is in docs/PROMISES.md.
+A call that cannot do what it was asked raises a Refusal and changes nothing. What is no argument at
+all is a TypeError or a ValueError that names it. A store is used by one call at a time: it sees to
+that itself, so that threads may share it. Every call is one of the C library's functions, whose code
+is proved; what they promise is in docs/PROMISES.md.
 """
 
 from sobumikeyo.charts import Chart

@@ -3,7 +3,8 @@
 from ctypes import byref, c_uint8, c_uint32
 from typing import NamedTuple
 
-from sobumikeyo.library import CALLS, array_of
+from sobumikeyo.arguments import array_of, byte_run
+from sobumikeyo.library import calls
 from sobumikeyo.refusals import refuse_unless_zero
 
 
@@ -25,9 +26,9 @@ def read(file):
     Traceback (most recent call last):
     sobumikeyo.refusals.Refusal: refused 13: The file ends too early. See that all of it was copied, and that it has as many symbols as its header says.
     """
-    file = bytes(iter(file))
+    file = byte_run(file, "file")
     shape = (c_uint32 * 4)()
-    refuse_unless_zero(CALLS["read"](*array_of(c_uint8, file), byref(shape)))
+    refuse_unless_zero(calls()["read"](*array_of(c_uint8, file), byref(shape)))
     alphabet, depth, n, m = shape
     # the symbols are the file's last n + m bytes
     symbols = file[len(file) - n - m :]

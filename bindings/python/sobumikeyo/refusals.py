@@ -17,12 +17,15 @@ class Refusal(Exception):
     @property
     def happened(self):
         """What happened, in a sentence."""
-        return WORDS[self.number][0]
+        return self._words()[0]
 
     @property
     def advice(self):
         """What to do, in a sentence."""
-        return WORDS[self.number][1]
+        return self._words()[1]
+
+    def _words(self):
+        return WORDS.get(self.number, UNKNOWN)
 
     def __str__(self):
         return f"refused {self.number}: {self.happened} {self.advice}"
@@ -33,6 +36,7 @@ class Stopped(Refusal):
 
     def __init__(self, number, accepted):
         super().__init__(number)
+        self.args = number, accepted  # what a copy is made of
         self.accepted = accepted
 
     def __str__(self):
@@ -44,6 +48,12 @@ def refuse_unless_zero(answer):
     if answer:
         raise Refusal(answer)
 
+
+# A number that the table does not have can come from a library of another version alone.
+UNKNOWN = (
+    "This is no refusal that is known here.",
+    "See that the library is the one of this module.",
+)
 
 # What happened and what to do, by number.
 WORDS = {

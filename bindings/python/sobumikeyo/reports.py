@@ -1,9 +1,9 @@
 """Reports, their rows and contexts."""
 
 from enum import IntEnum
-from operator import index
 from typing import NamedTuple
 
+from sobumikeyo.arguments import whole_numbers
 from sobumikeyo.refusals import Refusal
 
 COUNTS = 8
@@ -27,8 +27,8 @@ class Context(NamedTuple):
         >>> Context.of([2, 1])
         Context(length=2, code=17)
         """
-        symbols = tuple(map(index, symbols))
-        if len(symbols) > DEEPEST or any(symbol not in range(CODE_BASE) for symbol in symbols):
+        symbols = whole_numbers(symbols, "symbols")
+        if len(symbols) > DEEPEST or any(symbol >= CODE_BASE for symbol in symbols):
             raise Refusal(NOT_OF_SITTING)
         return cls(len(symbols), sum(symbol * CODE_BASE**j for j, symbol in enumerate(reversed(symbols))))
 

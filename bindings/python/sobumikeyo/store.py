@@ -2,11 +2,13 @@
 
 from ctypes import byref, c_double, c_int64, c_uint8, c_uint32
 from enum import IntEnum
+from threading import RLock
 
+from sobumikeyo.arguments import array_of, byte_run, instance, number, sheet_of, whole_numbers
 from sobumikeyo.charts import Chart
-from sobumikeyo.library import CALLS, array_of, number, sheet_of
+from sobumikeyo.library import calls
 from sobumikeyo.refusals import Stopped, refuse_unless_zero
-from sobumikeyo.reports import ROW_WIDTH, Report, row_of
+from sobumikeyo.reports import ROW_WIDTH, Context, Report, row_of
 
 LARGEST_ROOM = 4096
 # As the program's sheet. What a row costs keeps reports of 512 + 512 symbols far below it.
@@ -15,7 +17,12 @@ SHEET_ROWS = 512
 
 def store_size(room):
     """How many numbers a store for so many contexts has."""
-    return 2048 + 24 * room
+    return 2048 + 24 * number(room, "room")
+
+
+def named(**arguments):
+    """Whole numbers by the names of their arguments, in their order."""
+    return [number(value, name) for name, value in arguments.items()]
 
 
 class Sample(IntEnum):
@@ -28,7 +35,11 @@ class Sample(IntEnum):
 class Store:
     """A store: room for contexts, shared by up to eight desks, 0 to 7. It owns its numbers.
 
-    Every call raises Refusal where it cannot do what it was asked, and has then changed nothing.
+    Every call raises Refusal where it cannot do what it was asked, and has then changed nothing. What is
+    no argument at all (a text for a desk, a number below 0) is a TypeError or a ValueError.
+
+    A store is used by one call at a time: it has a lock, and each call holds it, so that threads may
+    share a store, at one desk or at several. A copy, also by pickle, is a store of its own.
 
     >>> store = Store(100)
     >>> store.open(0, alphabet=2, depth=1, reservation=60)
@@ -46,7 +57,7 @@ class Store:
     def __init__(self, room):
         """A new store with room for so many contexts and no open desk; refusal 17."""
         # a room that will be refused needs no memory
-        self._lent = array_of(c_uint32, (0,) * store_size(min(number(room), LARGEST_ROOM)))
+        self._own((0,) * store_size(min(number(room, "room"), LARGEST_ROOM)))
         self.make(room)
 
     @classmethod
@@ -54,13 +65,22 @@ class Store:
         """A store of numbers that were kept from another. Any numbers may be given: where they are no
         store, every call but make gets refusal 1."""
         store = cls.__new__(cls)
-        store._lent = array_of(c_uint32, tuple(map(number, numbers)))
+        store._own(whole_numbers(numbers, "numbers"))
         return store
+
+    def _own(self, values):
+        """From now on a store of these numbers."""
+        self._lent = array_of(c_uint32, values)
+        self._lock = RLock()  # a signal's handler may come just before a call, and call too
+
+    def __reduce__(self):
+        return type(self).of_numbers, (self.numbers(),)
 
     def numbers(self):
         """The numbers, to be kept."""
         array, many = self._lent
-        return tuple(array[:many])
+        with self._lock:
+            return tuple(array[:many])
 
     def is_sound(self):
         """Whether the numbers are a store. Every store that calls have left is one."""
@@ -68,29 +88,30 @@ class Store:
 
     def make(self, room):
         """Makes the store anew, whatever it was; refusals 17 and 18."""
-        refuse_unless_zero(self._call("make", number(room)))
+        refuse_unless_zero(self._call("make", number(room, "room")))
 
     def open(self, desk, alphabet, depth, reservation):
         """Opens a desk for symbols below `alphabet` and contexts of up to `depth` symbols. The sitting may
         have `reservation` contexts."""
-        refuse_unless_zero(self._call("open", *map(number, (desk, alphabet, depth, reservation))))
+        opening = named(desk=desk, alphabet=alphabet, depth=depth, reservation=reservation)
+        refuse_unless_zero(self._call("open", *opening))
 
     def feed(self, desk, sample, symbol):
         """One more symbol of a sample."""
-        refuse_unless_zero(self._call("feed", *map(number, (desk, sample, symbol))))
+        refuse_unless_zero(self._call("feed", *named(desk=desk, sample=sample, symbol=symbol)))
 
     def feed_all(self, desk, sample, symbols):
         """Feeds the symbols (bytes, or numbers below 256) in their order, up to the first that is refused;
         those before it stay fed, and Stopped says how many. Quicker than as many feeds."""
         why = c_uint32()
-        run = array_of(c_uint8, bytes(iter(symbols)))
-        accepted = self._call("feed_all", number(desk), number(sample), *run, byref(why))
+        run = array_of(c_uint8, byte_run(symbols, "symbols"))
+        accepted = self._call("feed_all", *named(desk=desk, sample=sample), *run, byref(why))
         if why.value:
             raise Stopped(why.value, accepted)
 
     def close(self, desk):
         """Closes a desk. What it reserved is free for any later opening."""
-        refuse_unless_zero(self._call("close", number(desk)))
+        refuse_unless_zero(self._call("close", number(desk, "desk")))
 
     def room_left(self):
         """How many contexts are left to reserve."""
@@ -108,9 +129,8 @@ class Store:
         """Writes the report's rows on a sheet, such as an array.array("I"), from row `place` on, eleven
         numbers each; answers how many there are and the score. No number outside those rows is written."""
         rows, score = c_uint32(), c_int64()
-        refuse_unless_zero(
-            self._call("report", number(desk), *sheet_of(sheet), number(place), byref(rows), byref(score))
-        )
+        desk, place = named(desk=desk, place=place)
+        refuse_unless_zero(self._call("report", desk, *sheet_of(sheet, "sheet"), place, byref(rows), byref(score)))
         return rows.value, score.value
 
     def chart(self, desk, context, symbol):
@@ -124,7 +144,8 @@ class Store:
         Chart(first=0.5, second=None, gap=None)
         """
         seen, first, second, gap = c_uint32(), c_double(), c_double(), c_double()
-        asked = map(number, (desk, *context, symbol))
+        length, code = instance(context, "context", Context)
+        asked = named(desk=desk, length=length, code=code, symbol=symbol)
         refuse_unless_zero(self._call("chart", *asked, byref(seen), byref(first), byref(second), byref(gap)))
         by_first, by_second = seen.value in (1, 3), seen.value in (2, 3)
         return Chart(
@@ -134,5 +155,7 @@ class Store:
         )
 
     def _call(self, name, *others):
-        """One of the library's functions, with the store's numbers lent first."""
-        return CALLS[name](*self._lent, *others)
+        """One of the library's functions, with the store's numbers lent first and to no other call meanwhile."""
+        function = calls()[name]
+        with self._lock:
+            return function(*self._lent, *others)

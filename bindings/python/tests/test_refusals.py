@@ -68,7 +68,7 @@ class Refusals(unittest.TestCase):
         for length, code in ((3, 0), (1, 3), (1, 8), (2, 24), (0, 1)):
             self.refused(8, store, "chart", 0, Context(length, code), 0)
         self.refused(8, store, "chart", 0, EMPTY, 3)
-        for symbols in ([0] * 7, [8], [-1]):
+        for symbols in ([0] * 7, [8], [2**32 - 1]):
             with self.assertRaises(Refusal) as refused:
                 Context.of(symbols)
             self.assertEqual(refused.exception.number, 8)

@@ -5,7 +5,14 @@ use sobumikeyo::{Chart, Context, Desk, Point, Refusal, Sample, Stopped, Store, R
 use std::io::{Read, Write};
 
 const PLAYER_NUMBERS: usize = 100_352;
+const LONGEST_SHEET: usize = 5_632;
 const BLANK: u32 = u32::MAX;
+
+/// Says in one line what is wrong with the script, and ends.
+fn no_script(words: &str) -> ! {
+    eprintln!("play: not a script: {words}");
+    std::process::exit(1)
+}
 
 /// The numbers of a script, in their order.
 struct Script(std::vec::IntoIter<u32>);
@@ -13,12 +20,12 @@ struct Script(std::vec::IntoIter<u32>);
 impl Script {
     fn of(text: &str) -> Script {
         let words = text.split(|c: char| !c.is_ascii_digit()).filter(|word| !word.is_empty());
-        let numbers: Vec<u32> = words.map(|word| word.parse().expect("a number of 32 bits")).collect();
+        let numbers: Vec<u32> = words.map(|word| word.parse().unwrap_or_else(|_| no_script("a number has more than 32 bits"))).collect();
         Script(numbers.into_iter())
     }
 
     fn number(&mut self) -> u32 {
-        self.0.next().expect("the script ends within a call")
+        self.0.next().unwrap_or_else(|| no_script("it ends within a call"))
     }
 }
 
@@ -58,12 +65,15 @@ impl Player {
             }
             7 => self.spoil(next() as usize, next()),
             8 => self.feed_all(Desk(next()), Sample(next()), script),
-            _ => panic!("no call has the number {opcode}"),
+            _ => no_script(&format!("no call has the number {opcode}")),
         })
     }
 
     /// A refused making leaves lent what was lent before.
     fn make(&mut self, room: u32, len: usize) -> String {
+        if len > PLAYER_NUMBERS {
+            no_script(&format!("the player has {PLAYER_NUMBERS} numbers, not {len}"));
+        }
         let before = self.store.numbers().len();
         self.lend(len);
         let made = self.store.make(room);
@@ -87,6 +97,9 @@ impl Player {
     }
 
     fn spoil(&mut self, place: usize, number: u32) -> String {
+        if place >= PLAYER_NUMBERS {
+            no_script(&format!("the player has {PLAYER_NUMBERS} numbers, none at {place}"));
+        }
         let lent = self.store.numbers().len();
         self.lend(PLAYER_NUMBERS);
         let mut numbers = self.store.numbers().to_vec();
@@ -98,6 +111,9 @@ impl Player {
 
     /// The answer, the rows as they stand on the sheet, and how many numbers outside them have changed, where any have.
     fn report(&self, desk: Desk, sheet_len: usize, place: u32) -> String {
+        if sheet_len > LONGEST_SHEET {
+            no_script(&format!("a sheet has up to {LONGEST_SHEET} numbers, not {sheet_len}"));
+        }
         let mut sheet = vec![BLANK; sheet_len];
         let answered = self.store.report_on(desk, &mut sheet, place);
         let start = ROW_WIDTH * place as usize;
@@ -139,9 +155,9 @@ fn chart_words(chart: Chart) -> String {
 }
 
 fn main() -> std::io::Result<()> {
-    let mut text = String::new();
-    std::io::stdin().read_to_string(&mut text)?;
-    let mut script = Script::of(&text);
+    let mut bytes = Vec::new();
+    std::io::stdin().read_to_end(&mut bytes)?;
+    let mut script = Script::of(&String::from_utf8_lossy(&bytes));
     let mut player = Player::new();
     let mut to = std::io::BufWriter::new(std::io::stdout().lock());
     while let Some(lines) = player.play(&mut script) {

@@ -2,7 +2,7 @@
 //!
 //!     python3 -m reference.compare --program target/cargo/debug/examples/sitting
 use sobumikeyo::{read, Desk, Refusal, Sample, Store, ROW_WIDTH};
-use std::io::Read;
+use std::io::{Read, Write};
 
 const INPUT_BYTES: u64 = 2048;
 const ROOM: u32 = 256;
@@ -29,6 +29,6 @@ fn report(file: &[u8]) -> Result<String, Refusal> {
 fn main() -> std::io::Result<()> {
     let mut file = Vec::new();
     std::io::stdin().take(INPUT_BYTES).read_to_end(&mut file)?;
-    print!("{}", report(&file).unwrap_or_else(|refusal| format!("refused {}\n", refusal.number())));
-    Ok(())
+    let text = report(&file).unwrap_or_else(|refusal| format!("refused {}\n", refusal.number()));
+    std::io::stdout().write_all(text.as_bytes())
 }

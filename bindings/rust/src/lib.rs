@@ -18,9 +18,12 @@
 //! # Ok::<(), sobumikeyo::Refusal>(())
 //! ```
 //!
-//! A call that cannot do what it was asked answers a [`Refusal`] and changes nothing. Every call is one of the C library's functions,
-//! whose code is proved; what they promise is in the repository's `docs/PROMISES.md`.
+//! A call that cannot do what it was asked answers a [`Refusal`] and changes nothing. A store is used by one call at a time: every call that
+//! writes asks for `&mut`. Every call is one of the C library's functions, whose code is proved; what they promise is in the repository's
+//! `docs/PROMISES.md`.
 
+#[cfg(doctest)]
+mod borrows;
 mod calls;
 mod chart;
 mod file;

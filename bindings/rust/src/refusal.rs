@@ -26,7 +26,7 @@ impl Refusal {
     /// The refusal that `Context::of` gives for what no sitting can have.
     pub(crate) const NOT_OF_SITTING: Refusal = Refusal { number: 8 };
 
-    /// Its number, 1 to 18.
+    /// Its number, 1 to 18; never 0.
     pub fn number(self) -> u32 {
         self.number
     }
@@ -42,7 +42,7 @@ impl Refusal {
     }
 
     fn words(self) -> (&'static str, &'static str) {
-        WORDS[self.number as usize - 1]
+        *WORDS.get(self.number as usize - 1).unwrap_or(&UNKNOWN)
     }
 }
 
@@ -76,6 +76,9 @@ impl From<Stopped> for Refusal {
         stopped.refusal
     }
 }
+
+/// A number that the table does not have can come from a library of another version alone.
+const UNKNOWN: (&str, &str) = ("This is no refusal that is known here.", "See that the library is the one of this crate.");
 
 /// What happened and what to do, refusal 1 first.
 const WORDS: [(&str, &str); 18] = [
@@ -134,5 +137,13 @@ mod tests {
             .map(|refusal| (refusal.number.to_string(), refusal.happened().to_string(), refusal.advice().to_string()))
             .collect();
         assert_eq!(ours, table());
+    }
+
+    #[test]
+    fn a_number_outside_the_table_has_words() {
+        for number in [19, u32::MAX] {
+            let words = format!("refused {number}: This is no refusal that is known here. See that the library is the one of this crate.");
+            assert_eq!(Refusal { number }.to_string(), words);
+        }
     }
 }

@@ -43,6 +43,27 @@ impl Sample {
 /// assert_eq!(store.room_left()?, 60);
 /// # Ok::<(), sobumikeyo::Refusal>(())
 /// ```
+///
+/// A store is used by one call at a time, and the compiler sees to it: a call that writes asks for `&mut`, so threads that share a store, also at
+/// different desks, lend it by a lock.
+///
+/// ```
+/// use sobumikeyo::{Desk, Sample, Store};
+/// use std::sync::Mutex;
+///
+/// let store = Mutex::new(Store::new(100)?);
+/// std::thread::scope(|threads| {
+///     for desk in [Desk(0), Desk(1)] {
+///         let store = &store;
+///         threads.spawn(move || {
+///             store.lock().unwrap().open(desk, 2, 1, 50).unwrap();
+///             store.lock().unwrap().feed_all(desk, Sample::FIRST, &[0, 1, 0]).unwrap();
+///         });
+///     }
+/// });
+/// assert_eq!(store.into_inner().unwrap().room_left()?, 0);
+/// # Ok::<(), sobumikeyo::Refusal>(())
+/// ```
 #[derive(Clone, Debug, PartialEq, Eq)]
 pub struct Store {
     numbers: Vec<u32>,
