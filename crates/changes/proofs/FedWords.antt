@@ -1,17 +1,17 @@
 -- Records that are fed stay numbers of 32 bits: their keys are small, and a count that is raised was. Assumes nothing.
-use mathlib.Core.Path.{_≡_, refl, sym, ap, _∙_}
+use mathlib.Core.Path.{_≡_}
 use mathlib.Core.Bool.{Bool, true, false, cond}
 use mathlib.Core.List.{List, [], _∷_}
-use Prim.Native.Nat.{ℕ, zero, suc, _+_, _*_, _^_, _≤_, _<_}
+use Prim.Native.Nat.{ℕ, zero, suc, _+_, _^_, _≤_, _<_}
 use native.Mathlib.Omega.{arith}
 use lib.Dec.{ltb, eqb, lit<}
-use lib.ListN.{length, take, getD, set, replicate, getD-replicate}
+use lib.ListN.{length, take, getD, set, getD-replicate}
 use Rattle.numbers.specs.Limits.{mostSymbols, deepest, desks}
-use Rattle.contexts.specs.Keys.{deskSpan, contextKey, keyOf}
+use Rattle.contexts.specs.Keys.{keyOf}
 use Rattle.contexts.specs.Sitting.{Sample, first, second}
 use Rattle.contexts.proofs.KeyOrder.{Within, contextKey-lt}
 use Rattle.contexts.proofs.Followed.{context-take}
-use Rattle.records.specs.Records.{key, width, blank}
+use Rattle.records.specs.Records.{key, blank}
 use Rattle.records.specs.Bumped.{cellOf, raised, bumpedAt, Cell}
 use Rattle.records.specs.Fed.{fedTo}
 use Rattle.changes.specs.Words.{Words}

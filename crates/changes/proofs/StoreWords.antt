@@ -2,21 +2,21 @@
 use mathlib.Core.Path.{_≡_}
 use mathlib.Core.Bool.{true, not}
 use mathlib.Core.List.{List, [], _++_}
-use Prim.Native.Nat.{ℕ, suc, _+_, _-_, _*_, _^_, _≤_, _<_}
+use Prim.Native.Nat.{ℕ, suc, _+_, _-_, _*_, _^_, _<_}
 use native.Mathlib.Omega.{arith}
 use lib.Dec.{lit<}
-use lib.ListN.{length, take, drop, getD, set, length-drop}
+use lib.ListN.{length, take, drop, getD, set}
 use Rattle.numbers.specs.Limits.{mostSymbols, deepest, longest}
 use Rattle.numbers.proofs.Lists.{getD-part}
 use Rattle.contexts.specs.Sitting.{Sample}
 use Rattle.contexts.proofs.Strings.{context-length}
-use Rattle.records.specs.Records.{width, startOf, records}
+use Rattle.records.specs.Records.{width, startOf}
 use Rattle.records.specs.Held.{ofDesk, without}
 use Rattle.records.specs.Bumped.{cellOf}
 use Rattle.recording.proofs.Feeding.{wide-fed}
 use Rattle.recording.proofs.Desks.{length-without}
 use Rattle.replay.specs.Room.{Opening}
-use Rattle.store.specs.Layout.{headerSize, deskStart, deskNumbers, sizeField, recentField, room, used, recordsIn}
+use Rattle.store.specs.Layout.{headerSize, deskStart, deskNumbers, sizeField, recentField, used, recordsIn}
 use Rattle.store.specs.Sound.{soundb}
 use Rattle.store.specs.Meaning.{meaning}
 use Rattle.store.proofs.Parts.{records-length}

@@ -2,7 +2,7 @@
 use mathlib.Core.Path.{_≡_, refl, sym, ap, _∙_}
 use mathlib.Core.Bool.{true}
 use mathlib.Core.List.{List, _++_}
-use Prim.Native.Nat.{ℕ, _+_, _-_, _*_, _≤_, _<_}
+use Prim.Native.Nat.{ℕ, _+_, _*_, _≤_, _<_}
 use native.Mathlib.Omega.{arith}
 use lib.ListN.{length, take, drop, set, length-drop}
 use Rattle.numbers.specs.Limits.{desks}
@@ -13,7 +13,7 @@ use Rattle.records.specs.Bumped.{Written}
 use Rattle.records.proofs.Lent.{tail-lent}
 use Rattle.recording.proofs.Feeding.{wide-fed}
 use Rattle.recording.proofs.Desks.{wide-without, length-without}
-use Rattle.store.specs.Layout.{headerSize, storeSize, room, used, deskStart, sizeField, recentField, recordsIn}
+use Rattle.store.specs.Layout.{headerSize, room, used, deskStart, sizeField, recentField, recordsIn}
 use Rattle.store.specs.Sound.{soundb}
 use Rattle.store.proofs.Parts.{records-length}
 use Rattle.store.proofs.Passing.{passed}

@@ -2,7 +2,7 @@
 use Prim.Native.Nat.{ℕ, _+_, _*_, _/_, _≤_, _<_}
 use native.Mathlib.Omega.{arith}
 use native.Mathlib.Decide.{decLe}
-use mathlib.Core.Path.{_≡_, refl, sym, ap, subst, _∙_}
+use mathlib.Core.Path.{_≡_, refl, sym, ap}
 use mathlib.Core.Bool.{Bool, true, false}
 use mathlib.Core.List.{List, [], _∷_}
 use lib.ListN.{length, replicate, drop, length-replicate}
@@ -17,9 +17,9 @@ use Rattle.replay.specs.Machine.{opening, asking, closing, Call, atDesk, roomQu
 use Rattle.store.specs.Sound.{soundb}
 use Rattle.store.specs.Meaning.{meaning}
 use Rattle.store.proofs.Fitting.{meaning-fits}
-use Rattle.rules.specs.Report.{Reported, report}
+use Rattle.rules.specs.Report.{report}
 use Rattle.rules.specs.Rules.{Answer, feed, reporting, charting, reported, rules}
-use Rattle.calls.specs.Promises.{Asks, Reports, withRows}
+use Rattle.calls.specs.Promises.{Reports, withRows}
 use Rattle.calls.specs.Refusals.{refusalNumber}
 use Rattle.calls.specs.declared.Refusal.{Refusal}
 use Rattle.calls.specs.declared.Refusal.the-variants.{Unsound, NoSuchDesk, NotOpen, SampleEmpty, SheetShort}
@@ -27,7 +27,7 @@ use Rattle.calls.specs.declared.ReportAnswer.the-variants.{Rows, Refused}
 use Rattle.calls.proofs.Keeping.{asks-unsound, asks-answered}
 use Rattle.calls.proofs.Reporting as table
 use Rattle.changes.proofs.Possible as move
-use Rattle.demands.specs.Runs.{OnSheet, OnlyAsked, Does, Run, stop, then, CanDo, CanRun}
+use Rattle.demands.specs.Runs.{OnlyAsked, stop, then, CanDo, CanRun}
 use Rattle.demands.specs.Replays.{EachCan}
 
 -- ---- questions

@@ -1,11 +1,11 @@
 -- Demand 3's replay can be run, and nothing in it is refused. Assumes nothing.
-use Prim.Native.Nat.{ℕ, _≤_}
+use Prim.Native.Nat.{ℕ}
 use native.Mathlib.Omega.{arith}
 use native.Mathlib.Nat.{le-of-eq}
 use mathlib.Core.Path.{_≡_, refl, sym, subst}
 use mathlib.Core.List.{List, [], _∷_, _++_, List·Memᴰ, List·Memᴰ·head, List·Memᴰ·tail}
 use lib.ListN.{drop, set, replicate, length-replicate}
-use Rattle.replay.specs.Table.{Outcome, refused, answered}
+use Rattle.replay.specs.Table.{Outcome, refused}
 use Rattle.replay.specs.Serial.{Done, calls, answers, struck, serial}
 use Rattle.store.specs.Layout.{headerSize, storeSize}
 use Rattle.store.proofs.NewStore.{making-done}
