@@ -2,9 +2,10 @@
 use Prim.Native.Nat.{ℕ}
 use native.Mathlib.Omega.{arith}
 use mathlib.Core.Path.{_≡_, refl, sym}
-use mathlib.Core.Bool.{Bool, true, false}
+use mathlib.Core.Bool.{true, false}
 use mathlib.Core.List.{List}
 use lib.ListN.{length, drop}
+use Rattle.numbers.proofs.Tests.{not-both}
 use Rattle.replay.specs.Table.{Outcome, refused, answered}
 use Rattle.replay.specs.Machine.{Call, verdict, move, shift, settle}
 use Rattle.store.specs.Layout.{storeSize, room}
@@ -12,9 +13,6 @@ use Rattle.store.specs.Sound.{soundb}
 use Rattle.store.specs.Meaning.{meaning}
 use Rattle.rules.specs.Rules.{Answer, rules}
 use Rattle.calls.specs.Promises.{Moves, Asks}
-
-not-both : (b : Bool) → b ≡ true → b ≡ false → ⊥
-not-both b e f = let z : _≡_ {A = ℕ} 0 1 = cc in omega arith
 
 module _ (before : List ℕ) (c : Call rules) where
   pub moves-unsound : soundb before ≡ false → Moves before c (refused 1) before

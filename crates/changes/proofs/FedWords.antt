@@ -5,8 +5,9 @@ use mathlib.Core.List.{List, [], _∷_}
 use Prim.Native.Nat.{ℕ, zero, suc, _+_, _^_, _≤_, _<_}
 use native.Mathlib.Omega.{arith}
 use lib.Dec.{ltb, eqb, lit<}
-use lib.ListN.{length, take, getD, set, getD-replicate}
+use lib.ListN.{length, take, getD, set}
 use Rattle.numbers.specs.Limits.{mostSymbols, deepest, desks}
+use Rattle.numbers.proofs.Lists.{zeros-at}
 use Rattle.contexts.specs.Keys.{keyOf}
 use Rattle.contexts.specs.Sitting.{Sample, first, second}
 use Rattle.contexts.proofs.KeyOrder.{Within, contextKey-lt}
@@ -43,7 +44,7 @@ raised-cell r c B h = go r c (getD r c 0 + 1) (omega arith) (omega arith)
 
 blank-cell : (k c : ℕ) → Cell c → getD (blank k) c 0 ≡ 0
 blank-cell k zero h = absurd (omega (arith, h .after-key))
-blank-cell k (suc c) h = getD-replicate 23 c 0 0 (omega (arith, h .inside))
+blank-cell k (suc c) h = zeros-at 23 c
 
 -- ---- one count more under a key
 

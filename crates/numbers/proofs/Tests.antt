@@ -31,6 +31,10 @@ of-true false e = let z : _≡_ {A = ℕ} 0 1 = cc in absurd (omega arith)
 
 -- ---- both of two tests
 
+-- no test says both
+pub not-both : (b : Bool) → b ≡ true → b ≡ false → ⊥
+not-both b e f = let z : _≡_ {A = ℕ} 0 1 = cc in omega arith
+
 pub both : (a b : Bool) → T a → T b → T (a && b)
 both true b x y = y
 both false b x y = x

@@ -2,12 +2,13 @@
 use mathlib.Core.Path.{_≡_, refl, sym, ap, subst, _∙_}
 use mathlib.Core.Bool.{true, false}
 use mathlib.Core.List.{List, [], _∷_}
-use Prim.Native.Nat.{ℕ, zero, suc, _+_, _*_, _≤_, _<_, suc-le-suc}
+use Prim.Native.Nat.{ℕ, suc, _+_, _*_, _≤_, _<_, suc-le-suc}
 use native.Mathlib.Omega.{arith}
 use borrow.Author.Tests.{lt-ltb, le-ltb, ne-eqb}
 use lib.Dec.{T}
 use lib.ListN.{length, take, getD, set, replicate, length-set}
 use lib.Seq.{getD-set-same, getD-set-other}
+use Rattle.numbers.proofs.Lists.{zeros-at}
 use Rattle.numbers.proofs.Orders.{less, same, more, order}
 use Rattle.contexts.specs.Keys.{keyOf}
 use Rattle.records.specs.Records.{width, records, key, keys, rises}
@@ -49,19 +50,13 @@ pub record Passed (d : ℕ) (r : List ℕ) (rs : List (List ℕ)) (places : List
   pub seven : length places ≡ 7
   pub others : (k : ℕ) → j ≤ k → getD places k 0 ≡ 0
 
--- no number of a list of zeros is another
-zero-at : (n k : ℕ) → _≡_ {A = ℕ} (getD (replicate n 0) k 0) 0
-zero-at zero k = refl
-zero-at (suc n) zero = refl
-zero-at (suc n) (suc k) = zero-at n k
-
 pub passed-start : (d : ℕ) (r : List ℕ) (rs : List (List ℕ)) → Passed d r rs (replicate 7 0) 0 0
 passed-start d r rs = record {
   are-held = λ k h. absurd (omega arith);
   stand-at = λ k h. absurd (omega arith);
   no-later = λ h. omega arith;
   seven = refl;
-  others = λ k h. zero-at 7 k;
+  others = λ k h. zeros-at 7 k;
 }
 
 module _ (d : ℕ) (r : List ℕ) (n : ℕ) (l : List ℕ) (q : Askable d r n l) (places : List ℕ) (key weight from j : ℕ) (w : Walk d r key weight j)

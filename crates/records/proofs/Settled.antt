@@ -1,18 +1,15 @@
 -- The promise of the leaf that seeks records settles its answer. Assumes nothing.
 use mathlib.Core.Path.{_≡_, sym, _∙_}
-use mathlib.Core.Bool.{Bool, true, false}
 use mathlib.Core.List.{List}
 use Prim.Native.Nat.{ℕ, min, _≤_, _<_}
 use native.Mathlib.Omega.{arith}
 use lib.ListN.{length, take, getD}
 use lib.Seq.{ext-getD}
+use Rattle.numbers.proofs.Tests.{not-both}
 use Rattle.numbers.proofs.Orders.{less, same, more, order}
 use Rattle.contexts.specs.Keys.{keyOf}
 use Rattle.records.specs.Held.{held}
 use Rattle.records.specs.Located.{Located, Seeks}
-
-not-both : (b : Bool) → b ≡ true → b ≡ false → ⊥
-not-both b e f = let z : _≡_ {A = ℕ} 0 1 = cc in omega arith
 
 module _ (d : ℕ) (r : List ℕ) (rs : List (List ℕ)) where
   -- the first context that is missing is no shorter than another that is
