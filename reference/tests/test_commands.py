@@ -9,14 +9,15 @@ from pathlib import Path
 
 REPOSITORY = Path(__file__).resolve().parents[2]
 MODULES = ("cases", "compare", "program", "script")
-SCRIPTS = [".ci/run", "bench/crates", "bench/programs", "bench/run", "bindings/readme", "bindings/test", "samples/make"]
+SCRIPTS = [".ci/run", "bench/before", "bench/constants", "bench/crates", "bench/programs", "bench/run"]
+SCRIPTS += ["bindings/readme", "bindings/test", "samples/make"]
 SCRIPTS += ["bindings/python/build", "bindings/python/play.py", "bindings/python/sitting.py", "tools/picture"]
 NAMES = SCRIPTS + [f"python3 -m reference.{module}" for module in MODULES]
 EXAMPLE = bytes.fromhex("020104040001000100000100")
 LONGEST = 60  # seconds
 
 # What takes the path of a file: a command, and its words before the path.
-FILES = [("bench/crates",), ("bench/run",), ("samples/make",), ("tools/picture",)]
+FILES = [("bench/before",), ("bench/constants",), ("bench/crates",), ("bench/run",), ("samples/make",), ("tools/picture",)]
 FILES += [("tools/picture", "samples/alike.sitting", "--names")]
 FILES += [("python3 -m reference.compare", "--program"), ("python3 -m reference.compare", "--scripts")]
 # What a file holds that no command can use.

@@ -1,3 +1,5 @@
 pub mod Laws
 pub mod Weights
-pub mod Entries
+pub mod Squaring
+pub mod Twos
+pub mod Filling

@@ -1,0 +1,25 @@
+// Each call of this library by the same call of another build of it, timed in turn.
+#include "side.h"
+#include <stdio.h>
+#include <string.h>
+
+enum { QUICK = 1000, SLOW = 15 };
+
+int main(int words, char **word) {
+    job now[CASES], before[CASES];
+    answer of_now[SHAPES], of_before[SHAPES];
+    asked(words, word);
+    side_now(now, of_now);
+    side_before(before, of_before);
+    for (int k = 0; k < SHAPES; k++) {
+        shape s = shapes[k];
+        note("A %u, D %u, %u contexts, %u rows; before it: %s", s.alphabet, s.depth, of_now[k].contexts, of_now[k].rows,
+             memcmp(&of_now[k], &of_before[k], sizeof(answer)) == 0 ? "the same rows and score" : "ANOTHER REPORT");
+        for (int i = 0; i < CALLS; i++) {
+            job pair[] = {now[CALLS * k + i], before[CALLS * k + i]};
+            race_or_count(pair, 2, i < 3 ? QUICK : SLOW);
+            line(pair[0].ns / pair[1].ns, 0, "    %s: times as long as before (%.0f ns by %.0f)", calls[i], pair[0].ns, pair[1].ns);
+        }
+    }
+    return 0;
+}
