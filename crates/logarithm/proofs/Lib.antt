@@ -3,3 +3,4 @@ pub mod Weights
 pub mod Squaring
 pub mod Twos
 pub mod Filling
+pub mod Settled
