@@ -31,63 +31,65 @@ right-says n k h t =
 
 -- 1 where the square of a number of 32 binary digits has 64, 0 where it has 63
 abbrev digit : ℕ → ℕ
-digit m = m * m / 2 ^ 63
+digit lead = lead * lead / 2 ^ 63
 
 -- the square's first 32 digits
-abbrev square : ℕ → ℕ
-square m = m * m / 2 ^ 31 / 2 ^ digit m
+abbrev squareLead : ℕ → ℕ
+squareLead lead = lead * lead / 2 ^ 31 / 2 ^ digit lead
 
 -- the code's MARK
 abbrev pub mark : ℕ
 mark = 32768
 
--- d squarings are left: k has its mark after the last and not before, no square is above what the code has room for, and in the end the rule is met
+-- d squarings are left: k reaches its mark with the last, no square is above what the code has room for, and in the end the rule is met
 abbrev passes : ℕ → ℕ → ℕ → ℕ → Bool
-passes zero n m k = leb mark k && between (n ^ 1024) (k - mark)
-passes (suc d) n m k = (ltb m (2 ^ 32) && ltb k mark) && passes d n (square m) (2 * k + digit m)
+passes zero n lead k = leb mark k && between (n ^ 1024) (k - mark)
+passes (suc d) n lead k = (ltb lead (2 ^ 32) && ltb k mark) && passes d n (squareLead lead) (2 * k + digit lead)
 
-pub record Passing (n m k : ℕ) : Type 0 where
+-- .. however many are left
+pub record Passing (n lead k : ℕ) : Type 0 where
   pub squarings : ℕ
-  pub test : T (passes squarings n m k)
+  pub test : T (passes squarings n lead k)
 
 -- what the code asks of one squaring
-pub record Turn (n m k : ℕ) : Type 0 where
-  pub square-small : m * m < 2 ^ 64
-  pub rest : Passing n (square m) (2 * k + digit m)
+pub record Turn (n lead k : ℕ) : Type 0 where
+  pub square-small : lead * lead < 2 ^ 64
+  pub rest : Passing n (squareLead lead) (2 * k + digit lead)
 
-square-lt : (m : ℕ) → m < 2 ^ 32 → m * m < 2 ^ 64
-square-lt m h = let l : m ≤ 4294967295 = omega arith in lt-of-le-of-lt (mul-le-mul l l) (lit< tt)
+square-lt : (lead : ℕ) → lead < 2 ^ 32 → lead * lead < 2 ^ 64
+square-lt lead h = let l : lead ≤ 4294967295 = omega arith in lt-of-le-of-lt (mul-le-mul l l) (lit< tt)
 
-pub turn : (n m k : ℕ) → Passing n m k → k < mark → Turn n m k
-turn n m k p h = go (p .squarings) (p .test)
+pub turn : (n lead k : ℕ) → Passing n lead k → k < mark → Turn n lead k
+turn n lead k p h = go (p .squarings) (p .test)
   where
-    go : (d : ℕ) → T (passes d n m k) → Turn n m k
+    go : (d : ℕ) → T (passes d n lead k) → Turn n lead k
     go zero t = absurd (omega (arith, h, leb→le mark k (left (leb mark k) (between (n ^ 1024) (k - mark)) t)))
     go (suc d) t =
-        let a = ltb m (2 ^ 32) in
+        let a = ltb lead (2 ^ 32) in
         let b = ltb k mark in
-        let after = passes d n (square m) (2 * k + digit m) in
+        let after = passes d n (squareLead lead) (2 * k + digit lead) in
         record {
-          square-small = square-lt m (ltb→lt m (2 ^ 32) (left a b (left (a && b) after t)));
+          square-small = square-lt lead (ltb→lt lead (2 ^ 32) (left a b (left (a && b) after t)));
           rest = record { squarings = d; test = right (a && b) after t };
         }
 
-pub done : (n m k : ℕ) → 1 ≤ n → Passing n m k → mark ≤ k → k - mark ≡ L n
-done n m k l p h = go (p .squarings) (p .test)
+pub done : (n lead k : ℕ) → 1 ≤ n → Passing n lead k → mark ≤ k → k - mark ≡ L n
+done n lead k l p h = go (p .squarings) (p .test)
   where
-    go : (d : ℕ) → T (passes d n m k) → k - mark ≡ L n
+    go : (d : ℕ) → T (passes d n lead k) → k - mark ≡ L n
     go zero t = right-says n (k - mark) l (right (leb mark k) (between (n ^ 1024) (k - mark)) t)
     go (suc d) t =
-        let a = ltb m (2 ^ 32) in
+        let a = ltb lead (2 ^ 32) in
         let b = ltb k mark in
-        absurd (omega (arith, h, ltb→lt k mark (right a b (left (a && b) (passes d n (square m) (2 * k + digit m)) t))))
+        absurd (omega (arith, h, ltb→lt k mark (right a b (left (a && b) (passes d n (squareLead lead) (2 * k + digit lead)) t))))
 
 -- ---- all ten, for every n
 
--- z is by how many digits n is moved up
+-- from the start: n is moved up by its zeros
 abbrev tenPass : ℕ → ℕ → Bool
-tenPass n z = ltb z 32 && passes 10 n (n * 2 ^ z % 2 ^ 64) (63 - z)
+tenPass n zeros = ltb zeros 32 && passes 10 n (n * 2 ^ zeros % 2 ^ 64) (63 - zeros)
 
+-- .. which n alone says
 abbrev well : ℕ → Bool
 well n = tenPass n (leadingZeros 32 n)
 
@@ -111,14 +113,14 @@ from-one : (n : ℕ) → 1 ≤ n → 1 + (n - 1) ≡ n
 from-one n h = omega arith
 
 -- what the code asks at the start
-pub record Start (n z : ℕ) : Type 0 where
-  pub z-small : z < 32
-  pub run : Passing n (n * 2 ^ z % 2 ^ 64) (63 - z)
+pub record Start (n zeros : ℕ) : Type 0 where
+  pub zeros-small : zeros < 32
+  pub run : Passing n (n * 2 ^ zeros % 2 ^ 64) (63 - zeros)
 
 pub starts : (n : ℕ) → 1 ≤ n → n ≤ mostCounted → Start n (leadingZeros 32 n)
 starts n h l =
-    let z = leadingZeros 32 n in
-    let a = ltb z 32 in
-    let b = passes 10 n (n * 2 ^ z % 2 ^ 64) (63 - z) in
+    let zeros = leadingZeros 32 n in
+    let a = ltb zeros 32 in
+    let b = passes 10 n (n * 2 ^ zeros % 2 ^ 64) (63 - zeros) in
     let t : T (a && b) = subst (λ (x : ℕ). T (well x)) (from-one n h) (each-at well mostCounted 1 (n - 1) all-well (omega arith)) in
-    record { z-small = ltb→lt z 32 (left a b t); run = record { squarings = 10; test = right a b t } }
+    record { zeros-small = ltb→lt zeros 32 (left a b t); run = record { squarings = 10; test = right a b t } }

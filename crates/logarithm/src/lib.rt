@@ -63,19 +63,19 @@ fn log_past(logs: &[u32], n: u32) -> u32
 // What is added to L(n) while its digits are worked out, so that the tenth is known to be the last.
 const MARK: u32 = 32768;
 
-// L(n), by ten squarings. After j of them n^(2^j) is near m * 2^(e - 31), and m has 32 binary digits: squaring doubles e,
+// L(n), by ten squarings. After j of them n^(2^j) is near lead * 2^(e - 31), and lead has 32 binary digits: squaring doubles e,
 // and adds 1 where the square has a digit more. k is e with a 1 before its digits, 32 at first and `MARK` after ten doublings.
 fn log_of(n: u32) -> u32
     requires { ⌜ (1 ≤ n) × (n ≤ mostCounted) ⌝ }
     ensures { λ r. ⌜ r ≡ L n ⌝ }
 {
-    let z = u32::leading_zeros(n);
-    let mut m = (n as u64) << z;
-    let mut k = 63 - z;
+    let zeros = u32::leading_zeros(n);
+    let mut lead = (n as u64) << zeros;
+    let mut k = 63 - zeros;
     while k < MARK {
-        let s = m * m;
-        let digit = s >> 63;
-        m = s >> 31 >> digit;
+        let square = lead * lead;
+        let digit = square >> 63;
+        lead = square >> 31 >> digit;
         k = 2 * k + digit as u32;
     }
     k - MARK

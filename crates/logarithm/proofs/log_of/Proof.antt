@@ -6,28 +6,28 @@ use Rattle.logarithm.proofs.log_of.Statement.{statement}
 use Rattle.logarithm.proofs.log_of.Tie as tie
 
 abbrev Inv-loop : tie.InvT-loop
-Inv-loop n z m₀ k₀ m k = (0 < k) × Passing n m k
+Inv-loop n zeros lead₀ k₀ lead k = (0 < k) × Passing n lead k
 
 abbrev μ-loop : tie.MeasureT-loop
-μ-loop n z m₀ k₀ m k = mark - k
+μ-loop n zeros lead₀ k₀ lead k = mark - k
 
-cast-m : tie.Need-cast-m Inv-loop μ-loop
-cast-m c = omega (arith, starts (c .args .n) (c .pre .0) (c .pre .1) .z-small)
+cast-lead : tie.Need-cast-lead Inv-loop μ-loop
+cast-lead c = omega (arith, starts (c .args .n) (c .pre .0) (c .pre .1) .zeros-small)
 
-shl-m : tie.Need-shl-m Inv-loop μ-loop
-shl-m c = omega (arith, starts (c .args .n) (c .pre .0) (c .pre .1) .z-small)
+shl-lead : tie.Need-shl-lead Inv-loop μ-loop
+shl-lead c = omega (arith, starts (c .args .n) (c .pre .0) (c .pre .1) .zeros-small)
 
 sub-k : tie.Need-sub-k Inv-loop μ-loop
-sub-k c = omega (arith, starts (c .args .n) (c .pre .0) (c .pre .1) .z-small)
+sub-k c = omega (arith, starts (c .args .n) (c .pre .0) (c .pre .1) .zeros-small)
 
 loop-holds : tie.Need-loop-holds Inv-loop μ-loop
-loop-holds c = let start = starts (c .args .n) (c .pre .0) (c .pre .1) in (omega (arith, start .z-small), start .run)
+loop-holds c = let start = starts (c .args .n) (c .pre .0) (c .pre .1) in (omega (arith, start .zeros-small), start .run)
 
-mul-s : tie.Need-mul-s Inv-loop μ-loop
-mul-s c = record { fits = turn _ _ _ (c .before .loop .inv .1) (omega (arith, c .loop-test .taken)) .square-small }
+mul-square : tie.Need-mul-square Inv-loop μ-loop
+mul-square c = record { fits = turn _ _ _ (c .before .loop .inv .1) (omega (arith, c .loop-test .taken)) .square-small }
 
-shr-m : tie.Need-shr-m Inv-loop μ-loop
-shr-m c = omega (arith, turn _ _ _ (c .before .loop .inv .1) (omega (arith, c .loop-test .taken)) .square-small)
+shr-lead : tie.Need-shr-lead Inv-loop μ-loop
+shr-lead c = omega (arith, turn _ _ _ (c .before .loop .inv .1) (omega (arith, c .loop-test .taken)) .square-small)
 
 mul-k : tie.Need-mul-k Inv-loop μ-loop
 mul-k c = omega (arith, c .loop-test .taken)
@@ -53,12 +53,12 @@ log-of-spec =
     (tie.spec
     Inv-loop
     μ-loop
-    cast-m
-    shl-m
+    cast-lead
+    shl-lead
     sub-k
     loop-holds
-    mul-s
-    shr-m
+    mul-square
+    shr-lead
     mul-k
     cast-k
     add-k
