@@ -7,8 +7,8 @@ use mathlib.Core.List.{List, [], _∷_, _++_}
 use lib.ListN.{length}
 use borrow.Author.Tests.{lt-ltb, le-ltb}
 use Rattle.printing.specs.Text.{digit, spelled, decimal}
-use Rattle.printing.specs.Putting.{HasRoom, Puts}
-use Rattle.printing.proofs.Placing.{room-front, room-back, puts-then}
+use Rattle.placing.specs.Placing.{HasRoom, Puts}
+use Rattle.placing.proofs.Laws.{room-front, room-back, puts-then}
 
 spelled-small : (k n : ℕ) → n < 10 → spelled (suc k) n ≡ digit n ∷ []
 unfolding spelled

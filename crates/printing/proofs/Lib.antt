@@ -1,4 +1,3 @@
-pub mod Placing
 pub mod Decimals
 pub mod Negative
 pub mod Lines

@@ -7,8 +7,8 @@ use lib.IntN.{ℤ, pos}
 use lib.ListN.{length, getD, take, drop, take-append-drop}
 use lib.Seq.{take-suc, take-all}
 use Rattle.printing.specs.Text.{lineFeed, space, decimal, signed, lineOf}
-use Rattle.printing.specs.Putting.{HasRoom, Puts}
-use Rattle.printing.proofs.Placing.{room-front, room-back, puts-then}
+use Rattle.placing.specs.Placing.{HasRoom, Puts}
+use Rattle.placing.proofs.Laws.{room-front, room-back, puts-then}
 
 -- numbers, each with a blank after it
 abbrev pub parted : List ℕ → List ℕ

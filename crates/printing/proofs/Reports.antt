@@ -11,8 +11,9 @@ use lib.ListN.{length, getD, take, drop, length-append, length-drop}
 use lib.Seq.{take-suc, take-at, drop-append-add, length-take-le}
 use Rattle.numbers.specs.Limits.{rowWidth}
 use Rattle.printing.specs.Text.{lineOf, rowText, rowAt, rowsText}
-use Rattle.printing.specs.Putting.{HasRoom, Puts, Printable}
-use Rattle.printing.proofs.Placing.{room-back, puts-then}
+use Rattle.placing.specs.Placing.{HasRoom, Puts}
+use Rattle.printing.specs.Putting.{Printable}
+use Rattle.placing.proofs.Laws.{room-back, puts-then}
 
 -- a row's line is that of its numbers before the last count, and of the last count
 pub row-line : (A : ℕ) (row : List ℕ) (z : ℤ) → 3 + A ≤ length row → z ≡ pos (getD row (2 + A) 0) → lineOf (map pos (take (2 + A) row) ++ (z ∷ [])) ≡ rowText A row

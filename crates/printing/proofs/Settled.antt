@@ -6,8 +6,9 @@ use mathlib.Core.Path.{_≡_, sym, ap, ap₂, _∙_}
 use mathlib.Core.List.{List, _++_}
 use lib.ListN.{length, take, drop, take-append-drop}
 use lib.Seq.{take-at, drop-at, length-take-le}
-use Rattle.printing.specs.Putting.{HasRoom, Puts, Printed}
-use Rattle.printing.proofs.Placing.{puts-length}
+use Rattle.placing.specs.Placing.{HasRoom, Puts}
+use Rattle.printing.specs.Putting.{Printed}
+use Rattle.placing.proofs.Laws.{puts-length}
 
 -- a text that was put at the start is printed
 pub put-printed : (text before after : List ℕ) (r : ℕ) → HasRoom text 0 before → Puts text 0 before after r → Printed text before after r

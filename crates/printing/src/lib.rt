@@ -6,8 +6,11 @@ ghost use lib.IntN.{pos, natAbs};
 ghost use lib.ListN.{length};
 ghost use Rattle.printing.specs.Text.{decimal, lineOf, headText, rowText, rowsText, reportText, refusalText};
 ghost use Rattle.printing.specs.Text.{digit as Text·digit, signed as Text·signed};
-ghost use Rattle.printing.specs.Putting.{Printable, Printed, HasRoom, Puts};
+ghost use Rattle.placing.specs.Placing.{HasRoom, Puts};
+ghost use Rattle.printing.specs.Putting.{Printable, Printed};
 use numbers::ROW_WIDTH;
+use placing::put_byte;
+use placing::put_bytes;
 
 // The numbers of a report's first line: A, D, n, m, the row count and the doubled score.
 pub struct Head {
@@ -151,24 +154,4 @@ fn digit(d: u64) -> u8
     ensures { λ r. ⌜ r ≡ Text·digit d ⌝ }
 {
     b'0' + d as u8
-}
-
-fn put_bytes(buffer: &mut [u8], at: usize, text: &[u8]) -> usize
-    requires { ⌜ HasRoom (now text) at (now buffer) ⌝ }
-    ensures { λ r. ⌜ Puts (now (text .entry)) at (now (buffer .entry)) (now (buffer .exit)) r ⌝ }
-{
-    let mut i = 0;
-    while i < text.len() {
-        buffer[at + i] = text[i];
-        i += 1;
-    }
-    at + text.len()
-}
-
-fn put_byte(buffer: &mut [u8], at: usize, byte: u8) -> usize
-    requires { ⌜ HasRoom (byte ∷ []) at (now buffer) ⌝ }
-    ensures { λ r. ⌜ Puts (byte ∷ []) at (now (buffer .entry)) (now (buffer .exit)) r ⌝ }
-{
-    buffer[at] = byte;
-    at + 1
 }

@@ -9,7 +9,7 @@ use Rattle.printing.proofs.put_decimal.Reads as put-decimal
 use Rattle.printing.proofs.put_decimal.Kinds as put-decimal-kinds
 use Rattle.printing.proofs.+put_decimal.Lts-put_decimal as lts
 use Rattle.printing.proofs.digit.Reads as digit-reads
-use Rattle.printing.proofs.put_byte.Reads as put-byte-reads
+use Rattle.placing.proofs.put_byte.Reads as put-byte-reads
 use Rattle.printing.proofs.+put_decimal.{statement}
 use Rattle.printing.proofs.+put_decimal.Tie.{close}
 

@@ -6,8 +6,8 @@ use lib.IntN.{pos}
 use lib.ListN.{length, take}
 use mir.Facts.{toZ-ofZ}
 use Rattle.printing.specs.Text.{lineOf}
-use Rattle.printing.specs.Putting.{Puts}
-use Rattle.printing.proofs.Placing.{puts-length, puts-none}
+use Rattle.placing.specs.Placing.{Puts}
+use Rattle.placing.proofs.Laws.{puts-length, puts-none}
 use Rattle.printing.proofs.Lines.{parted, Begun, room-number, room-blank, puts-number, room-end, room-feed, puts-line}
 use Rattle.printing.proofs.put_line.Statement.{statement}
 use Rattle.printing.proofs.put_line.Tie as tie

@@ -8,8 +8,8 @@ use mir.Val.{toZ}
 use mir.Facts.{toZ-pos}
 use borrow.Author.Needs.{needs}
 use Rattle.printing.specs.Text.{ascii, lineOf, refusalText}
-use Rattle.printing.specs.Putting.{HasRoom}
-use Rattle.printing.proofs.Placing.{room-back, puts-then}
+use Rattle.placing.specs.Placing.{HasRoom}
+use Rattle.placing.proofs.Laws.{room-back, puts-then}
 use Rattle.printing.proofs.Lengths.{refusal-fits}
 use Rattle.printing.proofs.Settled.{put-printed}
 use Rattle.printing.proofs.put_refusal.Statement.{statement}

@@ -5,8 +5,8 @@ use mathlib.Core.Path.{refl}
 use mathlib.Core.List.{List, _++_}
 use borrow.Author.Needs.{needs}
 use Rattle.printing.specs.Text.{headText, rowsText}
-use Rattle.printing.specs.Putting.{HasRoom}
-use Rattle.printing.proofs.Placing.{room-front, room-back, puts-then}
+use Rattle.placing.specs.Placing.{HasRoom}
+use Rattle.placing.proofs.Laws.{room-front, room-back, puts-then}
 use Rattle.printing.proofs.Lengths.{report-fits}
 use Rattle.printing.proofs.Settled.{put-printed}
 use Rattle.printing.proofs.put_report.Statement.{statement}

@@ -10,7 +10,7 @@ use mir.Syntax.{w64}
 use mir.Val.{toZ}
 use mir.Facts.{toZ-pos}
 use Rattle.printing.specs.Text.{lineOf, rowText}
-use Rattle.printing.specs.Putting.{HasRoom, Puts}
+use Rattle.placing.specs.Placing.{HasRoom, Puts}
 use Rattle.printing.proofs.Reports.{row-line}
 use borrow.Author.Needs.{needs}
 use Rattle.printing.proofs.put_row.Statement.{statement}

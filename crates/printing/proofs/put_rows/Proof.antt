@@ -3,8 +3,8 @@ use Prim.Native.Nat.{_-_, _≤_}
 use native.Mathlib.Omega.{arith}
 use mathlib.Core.Path.{_≡_}
 use Rattle.printing.specs.Text.{rowsText}
-use Rattle.printing.specs.Putting.{Puts}
-use Rattle.printing.proofs.Placing.{puts-length, puts-none}
+use Rattle.placing.specs.Placing.{Puts}
+use Rattle.placing.proofs.Laws.{puts-length, puts-none}
 use Rattle.printing.proofs.Reports.{row-lent, Begun, row-long, room-row, puts-row}
 use Rattle.printing.proofs.put_rows.Statement.{statement}
 use Rattle.printing.proofs.put_rows.Tie as tie

@@ -6,8 +6,8 @@ use borrow.Author.Needs.{needs}
 use lib.IntN.{natAbs}
 use mir.Facts.{toZ-ofZ}
 use Rattle.printing.specs.Text.{minus, decimal, signed}
-use Rattle.printing.specs.Putting.{HasRoom, Puts}
-use Rattle.printing.proofs.Placing.{room-front, room-back, puts-then}
+use Rattle.placing.specs.Placing.{HasRoom, Puts}
+use Rattle.placing.proofs.Laws.{room-front, room-back, puts-then}
 use Rattle.printing.proofs.Negative.{signed-below, signed-from}
 use Rattle.printing.proofs.put_signed.Statement.{statement}
 use Rattle.printing.proofs.put_signed.Tie as tie

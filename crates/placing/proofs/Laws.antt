@@ -7,7 +7,7 @@ use mathlib.Core.Path.{_≡_, refl, sym, ap, ap₂, _∙_}
 use mathlib.Core.List.{List, [], _∷_, _++_, append-assoc}
 use lib.ListN.{length, getD, take, drop, set, length-append, length-take, length-drop, take-append-drop}
 use lib.Seq.{take-suc, set-split, take-at, drop-at, drop-drop, length-take-le}
-use Rattle.printing.specs.Putting.{laid, HasRoom, Puts}
+use Rattle.placing.specs.Placing.{laid, HasRoom, Puts}
 
 -- ---- one text
 

@@ -1,8 +1,8 @@
--- `printing::put_byte` meets its contract: one store. Assumes nothing.
+-- `placing::put_byte` meets its contract: one store. Assumes nothing.
 use borrow.Author.Needs.{needs}
-use Rattle.printing.proofs.Placing.{puts-byte}
-use Rattle.printing.proofs.put_byte.Statement.{statement}
-use Rattle.printing.proofs.put_byte.Tie as tie
+use Rattle.placing.proofs.Laws.{puts-byte}
+use Rattle.placing.proofs.put_byte.Statement.{statement}
+use Rattle.placing.proofs.put_byte.Tie as tie
 
 slice-write-buffer : tie.Need-slice-write-buffer
 slice-write-buffer c = search needs

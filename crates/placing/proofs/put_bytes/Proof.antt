@@ -1,14 +1,14 @@
--- `printing::put_bytes` meets its contract: after i turns the first i bytes stand in place. Assumes nothing.
+-- `placing::put_bytes` meets its contract: after i turns the first i bytes stand in place. Assumes nothing.
 use Prim.Native.Nat.{ℕ, _+_, _-_, _≤_}
 use native.Mathlib.Omega.{arith}
 use native.Mathlib.Nat.{add-zero}
 use mathlib.Core.Path.{_≡_, ap, _∙_}
 use lib.ListN.{length, take}
 use lib.Seq.{take-length}
-use Rattle.printing.specs.Putting.{Puts}
-use Rattle.printing.proofs.Placing.{puts-length, puts-none, next-room, puts-next}
-use Rattle.printing.proofs.put_bytes.Statement.{statement}
-use Rattle.printing.proofs.put_bytes.Tie as tie
+use Rattle.placing.specs.Placing.{Puts}
+use Rattle.placing.proofs.Laws.{puts-length, puts-none, next-room, puts-next}
+use Rattle.placing.proofs.put_bytes.Statement.{statement}
+use Rattle.placing.proofs.put_bytes.Tie as tie
 
 abbrev Inv-loop : tie.InvT-loop
 Inv-loop buffer₀ at text i₀ buffer i = (i ≤ length text) × Puts (take i text) at buffer₀ buffer (at + i)
