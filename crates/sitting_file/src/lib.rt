@@ -45,7 +45,8 @@ enum Number {
 // How many bytes of its input a program reads at most.
 pub const INPUT_BYTES: usize = 2048;
 
-const HIGH_BIT: u32 = 128;
+// A byte below this is the last group of its number.
+pub const HIGH_BIT: u32 = 128;
 
 // Whether a file is a sitting's, and why not. The promise is an equation, so it allows one answer to each file.
 pub fn read(file: &[u8]) -> Reading

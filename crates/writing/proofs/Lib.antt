@@ -1,0 +1,5 @@
+pub mod Good
+pub mod Sizes
+pub mod Answers
+pub mod RoundTrip
+pub mod Settled
