@@ -4,7 +4,7 @@ ghost use Rattle.replay.specs.Machine.{opening, closing, atDesk, asking};
 ghost use Rattle.replay.specs.Room.{naming};
 ghost use Rattle.rules.specs.Rules.{feed};
 ghost use Rattle.store.specs.Sound.{soundb};
-ghost use Rattle.told.specs.Told.{MakeTold, MoveTold, RunTold, RoomTold, ReportTold, ReadTold, ChartTold};
+ghost use Rattle.told.specs.Told.{MakeTold, MoveTold, RunTold, RoomTold, ReportTold, ReadTold, WriteTold, ChartTold};
 use calls::ChartAnswer;
 use calls::ReportAnswer;
 use calls::RoomLeft;
@@ -13,6 +13,7 @@ use sitting_file::Reading;
 use told::code_of;
 use told::ending_code;
 use told::making_code;
+use writing::Writing;
 
 // Makes a store for `room` contexts of the numbers lent, whatever they are.
 #[no_mangle]
@@ -122,6 +123,27 @@ pub extern "C" fn sobumikeyo_read(file: &[u8], shape: &mut [u32; 4]) -> u32
         Reading::Refused(why) => sitting_file::refusal_number(why),
         Reading::Accepted(s) => {
             *shape = [s.alphabet, s.depth, s.first, s.second];
+            0
+        }
+    }
+}
+
+// Writes the file of a sitting at the start of the bytes lent, and its length.
+#[no_mangle]
+pub extern "C" fn sobumikeyo_write(
+    first: &[u8],
+    second: &[u8],
+    alphabet: u32,
+    depth: u32,
+    file: &mut [u8],
+    written: &mut usize,
+) -> u32
+    ensures { λ r. ⌜ WriteTold alphabet depth (now (first .entry)) (now (second .entry)) (now (file .entry)) r (now (file .exit)) (now (written .entry)) (now (written .exit)) ⌝ }
+{
+    match writing::write(first, second, alphabet, depth, file) {
+        Writing::Refused(why) => writing::refusal_number(why),
+        Writing::Written(size) => {
+            *written = size;
             0
         }
     }

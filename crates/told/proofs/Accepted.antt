@@ -29,10 +29,13 @@ use Rattle.sitting_file.specs.Format.{readOf}
 use Rattle.sitting_file.specs.declared.Shape.{Shape}
 use Rattle.sitting_file.specs.declared.Reading.{Reading}
 use Rattle.sitting_file.specs.declared.Reading.the-variants as reading
+use Rattle.writing.specs.Writing.{WritesFile, writingOutcome}
+use Rattle.writing.specs.declared.Writing.{Writing}
+use Rattle.writing.specs.declared.Writing.the-variants as put
 use Rattle.told.specs.Codes.{toldAs, readCode}
-use Rattle.told.specs.Outputs.{leftAfter, rowsAfter, scoreAfter, shapeAfter, seenIn, firstIn, secondIn, gapIn, seenAfter, firstAfter, secondAfter, gapAfter}
-use Rattle.told.specs.Told.{MakeTold, MoveTold, RunTold, RoomTold, ReportTold, ReadTold, ChartTold}
-use Rattle.told.proofs.Numbers.{fault-above-zero, not-refused}
+use Rattle.told.specs.Outputs.{leftAfter, rowsAfter, scoreAfter, shapeAfter, lengthAfter, seenIn, firstIn, secondIn, gapIn, seenAfter, firstAfter, secondAfter, gapAfter}
+use Rattle.told.specs.Told.{MakeTold, MoveTold, RunTold, RoomTold, ReportTold, ReadTold, WriteTold, ChartTold}
+use Rattle.told.proofs.Numbers.{fault-above-zero, writing-above-zero, not-refused}
 
 -- ---- a making
 pub made-accepted : {K : ℕ} {s t : List ℕ} → MakeTold K s 0 t → Makes K s making.Done t
@@ -112,3 +115,13 @@ module _ {bytes old new : List ℕ} where
       go : (x : Reading) → readOf bytes ≡ x → 0 ≡ readCode x → new ≡ shapeAfter x old → Announced bytes new
       go (reading.Accepted x) p e f = record { shape = x; accepted = p; output = f }
       go (reading.Refused why) p e f = absurd (omega (arith, fault-above-zero why, e))
+
+-- ---- a file written: its length was put out
+module _ {A D : ℕ} {xs ys before after : List ℕ} {old size : ℕ} where
+  pub write-accepted : WriteTold A D xs ys before 0 after old size → WritesFile A D xs ys before (answered size) after
+  write-accepted m = go (m .answer) (m .promise) (m .number) (m .output)
+    where
+      go : (x : Writing) → WritesFile A D xs ys before (writingOutcome x) after → 0 ≡ toldAs (writingOutcome x) → size ≡ lengthAfter (writingOutcome x) old
+          → WritesFile A D xs ys before (answered size) after
+      go (put.Written n) p e f = subst (λ (k : ℕ). WritesFile A D xs ys before (answered k) after) (sym f) p
+      go (put.Refused why) p e f = absurd (omega (arith, writing-above-zero why, e))

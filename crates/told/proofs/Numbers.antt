@@ -3,13 +3,15 @@ use Prim.Native.Nat.{ℕ, suc, _<_}
 use mathlib.Core.Path.{_≡_, sym, ap}
 use native.Mathlib.Omega.{arith}
 use Rattle.replay.specs.Table.{Outcome, refused, answered}
-use Rattle.rules.specs.Rules.{Answer}
 use Rattle.calls.specs.Refusals.{refusalNumber}
 use Rattle.calls.specs.declared.Refusal.{Refusal}
 use Rattle.calls.specs.declared.Refusal.the-variants.{Unsound, NoSuchDesk, AlreadyOpen, NotOpen, OutsideLimits, BadReservation, NoRoom, NotOfSitting, SampleFull, PastReservation, SampleEmpty, SheetShort}
 use Rattle.sitting_file.specs.Format as format
 use Rattle.sitting_file.specs.declared.Refusal as file
 use Rattle.sitting_file.specs.declared.Refusal.the-variants as fault
+use Rattle.writing.specs.Writing as writing
+use Rattle.writing.specs.declared.Refusal as bad
+use Rattle.writing.specs.declared.Refusal.the-variants as values
 use Rattle.told.specs.Codes.{toldAs}
 
 -- THEOREM. No refusal has the number 0
@@ -33,11 +35,15 @@ fault-above-zero fault.NotShortest = omega arith
 fault-above-zero fault.OutsideLimits = omega arith
 fault-above-zero fault.BytesLeft = omega arith
 
+pub writing-above-zero : (why : bad.Refusal) → 0 < writing.refusalNumber why
+writing-above-zero values.BadValues = omega arith
+writing-above-zero values.BufferShort = omega arith
+
 -- a refusal's number is not 0
 pub not-refused : {B : Type 0} (why : Refusal) → 0 ≡ refusalNumber why → B
 not-refused why e = absurd (omega (arith, above-zero why, e))
 
 -- a number above 0 is a refusal's
-pub refused-by : (o : Outcome Answer) (n : ℕ) → suc n ≡ toldAs o → o ≡ refused (suc n)
+pub refused-by : {Answer : Type 0} (o : Outcome Answer) (n : ℕ) → suc n ≡ toldAs o → o ≡ refused (suc n)
 refused-by (answered x) n e = absurd (omega (arith, e))
 refused-by (refused m) n e = ap refused (sym e)

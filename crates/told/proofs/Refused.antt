@@ -1,6 +1,6 @@
 -- Any number but 0 is a refusal's, which leaves the outputs. Assumes nothing.
 use Prim.Native.Nat.{ℕ, suc}
-use mathlib.Core.Path.{_≡_, sym, subst}
+use mathlib.Core.Path.{_≡_, sym, ap, subst, _∙_}
 use mathlib.Core.List.{List}
 use native.Mathlib.Omega.{arith}
 use lib.IntN.{ℤ}
@@ -20,9 +20,10 @@ use Rattle.calls.specs.declared.ChartAnswer.the-variants as asked
 use Rattle.sitting_file.specs.Format.{readOf}
 use Rattle.sitting_file.specs.declared.Reading.{Reading}
 use Rattle.sitting_file.specs.declared.Reading.the-variants as reading
+use Rattle.writing.specs.Writing.{WritesFile, writingOutcome}
 use Rattle.told.specs.Codes.{toldAs, readCode}
-use Rattle.told.specs.Outputs.{leftAfter, rowsAfter, scoreAfter, shapeAfter, seenAfter, firstAfter, secondAfter, gapAfter}
-use Rattle.told.specs.Told.{MoveTold, RunTold, RoomTold, ReportTold, ReadTold, ChartTold}
+use Rattle.told.specs.Outputs.{leftAfter, rowsAfter, scoreAfter, shapeAfter, lengthAfter, seenAfter, firstAfter, secondAfter, gapAfter}
+use Rattle.told.specs.Told.{MoveTold, RunTold, RoomTold, ReportTold, ReadTold, WriteTold, ChartTold}
 use Rattle.told.proofs.Numbers.{refused-by}
 
 -- ---- an opening, a feed or a closing
@@ -72,3 +73,11 @@ module _ {bytes old new : List ℕ} where
       go : (x : Reading) → suc n ≡ readCode x → new ≡ shapeAfter x old → new ≡ old
       go (reading.Accepted x) e f = absurd (omega (arith, e))
       go (reading.Refused why) e f = f
+
+-- ---- a file that is not written: the bytes and the length stay
+module _ {A D : ℕ} {xs ys before after : List ℕ} {old size : ℕ} where
+  pub write-refused : {n : ℕ} → WriteTold A D xs ys before (suc n) after old size → WritesFile A D xs ys before (refused (suc n)) after × (after ≡ before) × (size ≡ old)
+  write-refused {n} m =
+      let o = writingOutcome (m .answer) in
+      let e : o ≡ refused (suc n) = refused-by o n (m .number) in
+      (subst (λ (q : Outcome ℕ). WritesFile A D xs ys before q after) e (m .promise), m .promise .refused-stays (suc n) e, m .output ∙ ap (λ (q : Outcome ℕ). lengthAfter q old) e)

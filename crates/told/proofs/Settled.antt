@@ -1,4 +1,4 @@
--- Whatever the promises for C allow has one number and one set of outputs: the questions and the reader. Assumes nothing.
+-- Whatever the promises for C allow has one number and one set of outputs: the questions, the reader and the writer. Assumes nothing.
 use Prim.Native.Nat.{ℕ, _*_}
 use mathlib.Core.Path.{_≡_, refl, sym, ap, _∙_}
 use mathlib.Core.List.{List}
@@ -19,9 +19,11 @@ use Rattle.calls.specs.declared.ReportAnswer.the-variants as written
 use Rattle.calls.proofs.Settled.{asks-settled, reports-settled}
 use Rattle.calls.specs.declared.ChartAnswer.{ChartAnswer}
 use Rattle.calls.specs.declared.ChartAnswer.the-variants as asked
+use Rattle.writing.specs.Writing.{writingOutcome}
+use Rattle.writing.proofs.Settled.{writing-settled}
 use Rattle.told.specs.Codes.{toldAs}
-use Rattle.told.specs.Outputs.{leftAfter, rowsAfter, scoreAfter, seenIn, firstIn, secondIn, gapIn, seenAfter, firstAfter, secondAfter, gapAfter}
-use Rattle.told.specs.Told.{RoomTold, ReportTold, ReadTold, ChartTold}
+use Rattle.told.specs.Outputs.{leftAfter, rowsAfter, scoreAfter, lengthAfter, seenIn, firstIn, secondIn, gapIn, seenAfter, firstAfter, secondAfter, gapAfter}
+use Rattle.told.specs.Told.{RoomTold, ReportTold, ReadTold, WriteTold, ChartTold}
 
 -- ---- questions: an output is what the outcome has for it, or what stood there
 module _ {B : Type 0} where
@@ -110,6 +112,13 @@ report-one {s} {d} {place} {r} {q} {before} {x} {y} {old} {rows} {rows′} {was}
 
 pub read-one : {bytes : List ℕ} {r q : ℕ} {old x y : List ℕ} → ReadTold bytes r old x → ReadTold bytes q old y → (r ≡ q) × (x ≡ y)
 read-one m n = (m .number ∙ sym (n .number), m .output ∙ sym (n .output))
+
+-- the bytes too
+pub write-one : {A D : ℕ} {xs ys before : List ℕ} {r q : ℕ} {x y : List ℕ} {old size size′ : ℕ}
+    → WriteTold A D xs ys before r x old size → WriteTold A D xs ys before q y old size′ → (r ≡ q) × (x ≡ y) × (size ≡ size′)
+write-one {A} {D} {xs} {ys} {before} {r} {q} {x} {y} {old} m n =
+    let e = writing-settled A D xs ys before (writingOutcome (m .answer)) (writingOutcome (n .answer)) x y (m .promise) (n .promise) in
+    (m .number ∙ ap toldAs (e .0) ∙ sym (n .number), e .1, m .output ∙ ap (λ (o : Outcome ℕ). lengthAfter o old) (e .0) ∙ sym (n .output))
 
 -- what a chart question leaves: its number, which samples saw the context, and the three outputs
 module _ {s : List ℕ} {d len code a r q old seen seen′ : ℕ} {u first first′ v second second′ w gap gap′ : Float} where

@@ -22,9 +22,14 @@ use Rattle.sitting_file.specs.declared.Refusal as file
 use Rattle.sitting_file.specs.declared.Shape.{Shape}
 use Rattle.sitting_file.specs.declared.Reading.{Reading}
 use Rattle.sitting_file.specs.declared.Reading.the-variants as reading
+use Rattle.writing.specs.Writing.{WritesFile, writingOutcome}
+use Rattle.writing.specs.Writing as writing
+use Rattle.writing.specs.declared.Refusal as bad
+use Rattle.writing.specs.declared.Writing.{Writing}
+use Rattle.writing.specs.declared.Writing.the-variants as put
 use Rattle.told.specs.Codes.{toldAs, readCode}
-use Rattle.told.specs.Outputs.{leftAfter, rowsAfter, scoreAfter, shapeAfter, seenIn, firstIn, secondIn, gapIn, seenAfter, firstAfter, secondAfter, gapAfter}
-use Rattle.told.specs.Told.{RoomTold, ReportTold, ReadTold, ChartTold}
+use Rattle.told.specs.Outputs.{leftAfter, rowsAfter, scoreAfter, shapeAfter, lengthAfter, seenIn, firstIn, secondIn, gapIn, seenAfter, firstAfter, secondAfter, gapAfter}
+use Rattle.told.specs.Told.{RoomTold, ReportTold, ReadTold, WriteTold, ChartTold}
 
 -- ---- the room question
 module _ {s : List ℕ} {old : ℕ} (x : RoomLeft) (p : Asks s roomQuestion (roomOf x)) where
@@ -76,6 +81,24 @@ module _ {bytes old : List ℕ} (x : Reading) (p : x ≡ readOf bytes) where
   read-told e =
       let e′ = sym p ∙ e in
       record { number = sym (ap readCode e′); output = sym (ap (λ (a : Reading). shapeAfter a old) e′) }
+
+-- ---- a file written
+module _ {A D : ℕ} {xs ys before after : List ℕ} {old : ℕ} (x : Writing) (p : WritesFile A D xs ys before (writingOutcome x) after) where
+  pub write-refused : {why : bad.Refusal} {r : ℕ} → x ≡ put.Refused why → r ≡ writing.refusalNumber why → WriteTold A D xs ys before r after old old
+  write-refused e n = record {
+    answer = x;
+    promise = p;
+    number = n ∙ sym (ap (λ (a : Writing). toldAs (writingOutcome a)) e);
+    output = sym (ap (λ (a : Writing). lengthAfter (writingOutcome a) old) e);
+  }
+
+  pub write-told : {size : ℕ} → x ≡ put.Written size → WriteTold A D xs ys before 0 after old size
+  write-told e = record {
+    answer = x;
+    promise = p;
+    number = sym (ap (λ (a : Writing). toldAs (writingOutcome a)) e);
+    output = sym (ap (λ (a : Writing). lengthAfter (writingOutcome a) old) e);
+  }
 
 -- ---- a chart question
 module _ {s : List ℕ} {d len code a seen : ℕ} {first second gap : Float} (x : ChartAnswer) (p : Asks s (atDesk d (asking (charting len code a))) (chartedOf x)) where

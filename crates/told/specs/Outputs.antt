@@ -3,6 +3,7 @@ use Prim.Native.Nat.{ℕ}
 use mathlib.Core.List.{List, [], _∷_}
 use lib.IntN.{ℤ}
 use lib.Ieee.{Float}
+use Rattle.replay.specs.Table.{Outcome, refused, answered}
 use Rattle.calls.specs.declared.RoomLeft.{RoomLeft}
 use Rattle.calls.specs.declared.RoomLeft.the-variants as question
 use Rattle.calls.specs.declared.ReportAnswer.{ReportAnswer}
@@ -32,6 +33,11 @@ scoreAfter (written.Refused why) old = old
 abbrev pub shapeAfter : Reading → List ℕ → List ℕ
 shapeAfter (reading.Accepted x) old = x .alphabet ∷ x .depth ∷ x .first ∷ x .second ∷ []
 shapeAfter (reading.Refused why) old = old
+
+-- the length of a file that was written
+abbrev pub lengthAfter : Outcome ℕ → ℕ → ℕ
+lengthAfter (answered n) old = n
+lengthAfter (refused why) old = old
 
 -- which samples saw the context: 0 neither, 1 the first, 2 the second, 3 both
 abbrev pub seenIn : Chart → ℕ

@@ -18,8 +18,10 @@ use Rattle.calls.specs.Run.{Runs}
 use Rattle.calls.specs.declared.Ending.{Ending}
 use Rattle.calls.specs.declared.ChartAnswer.{ChartAnswer}
 use Rattle.sitting_file.specs.Format.{readOf}
+use Rattle.writing.specs.Writing.{WritesFile, writingOutcome}
+use Rattle.writing.specs.declared.Writing.{Writing}
 use Rattle.told.specs.Codes.{toldAs, readCode}
-use Rattle.told.specs.Outputs.{leftAfter, rowsAfter, scoreAfter, shapeAfter, seenAfter, firstAfter, secondAfter, gapAfter}
+use Rattle.told.specs.Outputs.{leftAfter, rowsAfter, scoreAfter, shapeAfter, lengthAfter, seenAfter, firstAfter, secondAfter, gapAfter}
 
 -- a making of room K with the numbers `before`
 pub record MakeTold (K : ℕ) (before : List ℕ) (r : ℕ) (after : List ℕ) : Type 0 where
@@ -58,6 +60,13 @@ pub record ReportTold (store : List ℕ) (d place r : ℕ) (sheet sheet′ : Lis
 pub record ReadTold (file : List ℕ) (r : ℕ) (shape shape′ : List ℕ) : Type 0 where
   pub number : r ≡ readCode (readOf file)
   pub output : shape′ ≡ shapeAfter (readOf file) shape
+
+-- the file of A, D and two samples, written into the bytes `before`; `length` is where its length is put
+pub record WriteTold (A D : ℕ) (xs ys before : List ℕ) (r : ℕ) (after : List ℕ) (length length′ : ℕ) : Type 0 where
+  pub answer : Writing
+  pub promise : WritesFile A D xs ys before (writingOutcome answer) after
+  pub number : r ≡ toldAs (writingOutcome answer)
+  pub output : length′ ≡ lengthAfter (writingOutcome answer) length
 
 -- a chart question
 pub record ChartTold (store : List ℕ) (d len code a r seen seen′ : ℕ) (first first′ second second′ gap gap′ : Float) : Type 0 where
