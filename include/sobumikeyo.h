@@ -9,8 +9,8 @@
  *     make, open, feed or feed_all, report and chart, close
  *
  * Each function answers 0, or the number of a refusal from the list below. A
- * refused call writes nothing: store, sheet and outputs stay as they were. Where
- * several refusals apply, the lowest number is given. Two functions answer
+ * refused call writes nothing: store, sheet, file and outputs stay as they were.
+ * Where several refusals apply, the lowest number is given. Two functions answer
  * something else: sobumikeyo_feed_all and sobumikeyo_sound.
  *
  * All memory is the caller's. No function allocates or keeps a pointer. A slice is
@@ -50,11 +50,12 @@ extern "C" {
 #define SOBUMIKEYO_SAMPLE_EMPTY 11     /* a report while either sample is empty */
 #define SOBUMIKEYO_SHEET_SHORT 12      /* the rows do not fit the sheet from that place on */
 
-/* The refusals of sitting files: the first fault from the left. */
+/* The refusals of sitting files; of a file that is read, the first fault from the left. */
 #define SOBUMIKEYO_ENDS_EARLY 13       /* the file ends before its last number does */
 #define SOBUMIKEYO_NOT_SHORTEST 14     /* a number is not in its shortest form */
-#define SOBUMIKEYO_FILE_OUTSIDE 15     /* a number is outside its limits */
+#define SOBUMIKEYO_FILE_OUTSIDE 15     /* a number, read or to be written, is outside its limits */
 #define SOBUMIKEYO_BYTES_LEFT 16       /* there are bytes after the last symbol */
+#define SOBUMIKEYO_BUFFER_SHORT 19     /* fewer bytes are lent than the file to be written has */
 
 /* The refusals of a making. */
 #define SOBUMIKEYO_ROOM_OUTSIDE 17     /* room not 1 to 4096 */
@@ -65,6 +66,9 @@ extern "C" {
 
 /* How many numbers a row has: kind (0 shared, 1 first's own, 2 second's own), length, code, eight counts. */
 #define SOBUMIKEYO_ROW_WIDTH 11
+
+/* How many bytes are enough for the file of two samples of so many symbols, whatever they are. */
+#define SOBUMIKEYO_FILE_ROOM(first_len, second_len) ((size_t)6 + (first_len) + (second_len))
 
 /* Makes a store for `room` contexts, whatever the numbers are. No desk is open. */
 uint32_t sobumikeyo_make(uint32_t *store, size_t store_len, uint32_t room);
@@ -101,6 +105,11 @@ uint32_t sobumikeyo_chart(const uint32_t *store, size_t store_len, uint32_t desk
 /* Reads a sitting file. `shape` gets its alphabet, its depth and the lengths n and m of its samples. */
 /* The symbols are then the file's last n + m bytes, one each, the first sample's before the second's. */
 uint32_t sobumikeyo_read(const uint8_t *file, size_t file_len, uint32_t shape[4]);
+
+/* Writes the sitting file of two samples, always in shortest form, from the beginning of `file` on. */
+/* `written` is the file's length, and the bytes from there on stay. sobumikeyo_read reads the same sitting back. */
+/* Refusals 15 and 19: a value that a file may not have goes before bytes that are too few. */
+uint32_t sobumikeyo_write(const uint8_t *first, size_t first_len, const uint8_t *second, size_t second_len, uint32_t alphabet, uint32_t depth, uint8_t *file, size_t file_len, size_t *written);
 
 /* Whether the numbers are a store: those that refusal 1 is not given for. Every store that calls have left is one. */
 bool sobumikeyo_sound(const uint32_t *store, size_t store_len);
