@@ -1,4 +1,4 @@
-"""The independent second program, written from document 01's words alone.
+"""The independent second program, written from the words of document 01 and of landed requests alone.
 
 It shares no code and no table with crates/ and is slow where the words are slow.
 """

@@ -1,4 +1,4 @@
-"""What store calls and the reader answer. Every refusal returns its number alone."""
+"""What store calls, the reader and the writer answer. Every refusal returns its number alone."""
 
 from typing import NamedTuple
 
@@ -53,3 +53,9 @@ class Shape(NamedTuple):
     D: int
     n: int
     m: int
+
+
+class Written(NamedTuple):
+    """The answer is the file's length; the file stands at the beginning of the buffer."""
+
+    length: int

@@ -4,19 +4,19 @@ Each function draws one case from `random`, raises a Difference where the ways p
 the tally what it compared.
 """
 
-from reference.answers import Refused, Shape
+from reference.answers import Refused, Shape, Written
 from reference.contexts import strings_up_to
 from reference.counts import UNSEEN, N, counts_by_place, total
 from reference.difference import Difference, demand_equal
 from reference.estimate import Recursion, Scale
-from reference.inputs import damaged_file, drawn_sample, drawn_sitting
+from reference.inputs import damaged_file, drawn_file, drawn_sample, drawn_sitting, drawn_values
 from reference.limits import ALPHABETS, DEPTHS
 from reference.logarithm import L, follows_rule
 from reference.program import INPUT_BYTES
 from reference.replay import CLOSING_QUESTIONS, replay_of
 from reference.rows import rows_of
 from reference.script import Player, answer_kind
-from reference.sitting_file import read, samples_of, write
+from reference.sitting_file import read, samples_of, write, write_into
 from reference.store import OpenSitting
 from reference.triples import best_triples, first_by_ties, is_admissible
 from reference.walks import drawn_walk
@@ -138,6 +138,37 @@ def check_damaged(random, tally):
     tally["reader: damaged files", kind] += 1
 
 
+def check_writing(random, tally):
+    """15 where the reader refuses the file of those values, else 19 where the buffer is shorter than it; only
+    an accepted call writes, and nothing but the file."""
+    A, D, samples = drawn_values(random)
+    file = write(A, D, *samples)
+    shape = read(file)
+    room = random.choice([0, len(file) - 1, len(file), len(file) + 1, random.randrange(1100)])
+    before = random.randbytes(room)
+    buffer = bytearray(before)
+    answer = write_into(*samples, A, D, buffer)
+    rule = shape if isinstance(shape, Refused) else Refused(19) if room < len(file) else Written(len(file))
+    demand_equal("writer", (A, D, samples, room), rule=rule, written=answer)
+    end = answer.length if isinstance(answer, Written) else 0
+    demand_equal("lent buffer", (A, D, samples, room), rule=file[:end] + before[end:], written=bytes(buffer))
+    kind = f"refused {answer.number}" if isinstance(answer, Refused) else "written"
+    tally["writer: values, by what the reader says of their file", kind] += 1
+
+
+def check_written_again(random, tally):
+    """A file, mostly a whole one, that the reader accepts, written again from what was read."""
+    file = random.choice([drawn_file, drawn_file, damaged_file])(random)
+    shape = read(file)
+    if isinstance(shape, Refused):
+        return
+    buffer = bytearray(len(file))
+    answer = write_into(*samples_of(file, shape), shape.A, shape.D, buffer)
+    demand_equal("length written again", file.hex(), rule=Written(len(file)), written=answer)
+    demand_equal("file written again", file.hex(), read=file, written=bytes(buffer))
+    tally["writer: accepted files written again", ""] += 1
+
+
 def check_replay(random, tally):
     """A walk over eight desks against its accepted calls played sitting by sitting on a new store."""
     walk = drawn_walk(random, remake=False)
@@ -168,5 +199,7 @@ CHECKS = [
     (check_whole_tree, 3),
     (check_written, 10),
     (check_damaged, 30),
+    (check_writing, 20),
+    (check_written_again, 10),
     (check_replay, 3),
 ]

@@ -1,5 +1,5 @@
-"""Random sittings and sitting files, whole and damaged. Everything is drawn from the `random` given,
-so a seed fixes it."""
+"""Random sittings and sitting files, whole and damaged, and values to be written. Everything is drawn
+from the `random` given, so a seed fixes it."""
 
 from reference.estimate import Sitting
 from reference.limits import ALPHABETS, DEPTHS, SAMPLE_LIMIT
@@ -198,6 +198,49 @@ def damaged_file(random):
     for _ in range(random.choice([1, 1, 1, 2, 3])):
         file = random.choice(DAMAGES)(random, file)
     return file
+
+
+def other_alphabet(random, sitting):
+    return sitting._replace(A=random.choice([0, 1, 2, 3, 7, 8, 9, 10, 128, 256, 258, 16383]))
+
+
+def other_depth(random, sitting):
+    return sitting._replace(D=random.choice([0, 5, 6, 7, 8, 128, 256, 16383]))
+
+
+def with_sample(random, sitting, changed):
+    """The sitting with one of its samples changed."""
+    samples = list(sitting.samples)
+    which = random.randrange(2)
+    samples[which] = changed(samples[which])
+    return sitting._replace(samples=tuple(samples))
+
+
+def other_length(random, sitting):
+    length = random.choice([0, 1, 126, 127, 128, 129, 255, 256, 510, 511, 512, 513, 514, 640])
+    return with_sample(random, sitting, lambda sample: ((sample or (0,)) * length)[:length])
+
+
+def other_symbol(random, sitting):
+    """One symbol, the first or the last as often as any other, at the alphabet's limit or far outside it."""
+    symbol = random.choice([max(sitting.A - 1, 0), sitting.A, sitting.A + 1, 127, 128, 255]) % 256
+
+    def exchanged_in(sample):
+        place = random.choice([0, len(sample) - 1, random.randrange(len(sample))]) if sample else 0
+        return sample[:place] + (symbol,) + sample[place + 1 :]
+
+    return with_sample(random, sitting, exchanged_in)
+
+
+CHANGES = [other_alphabet, other_depth, other_length, other_length, other_symbol]
+
+
+def drawn_values(random):
+    """A sitting to be written, some of whose values may lie just outside their limits."""
+    sitting = drawn_sitting(random)
+    for _ in range(random.choice([0, 1, 1, 1, 2, 3])):
+        sitting = random.choice(CHANGES)(random, sitting)
+    return sitting
 
 
 def fixed_files():

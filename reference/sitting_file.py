@@ -1,9 +1,9 @@
-"""Document 01, "Sitting file and program": the reader, and a writer for tests and samples.
+"""Document 01, "Sitting file and program": the reader; request E1: the writer.
 
 The file: A, D, n, m, n symbols, m symbols. Symbols are numbers as those of the header are.
 """
 
-from reference.answers import Refused, Shape
+from reference.answers import Refused, Shape, Written
 from reference.limits import ALPHABETS, DEPTHS, SAMPLE_LIMIT
 
 GROUP = 128  # a group has seven bits; from here up the high bit is set
@@ -83,6 +83,24 @@ def number_bytes(value):
 
 
 def write(A, D, first, second):
-    """The file of those values, whether or not they lie within the limits."""
+    """The file of those values, whether or not they lie within the limits: for tests and samples."""
     numbers = [A, D, len(first), len(second), *first, *second]
     return b"".join(map(number_bytes, numbers))
+
+
+def may_be_written(first, second, A, D):
+    """Whether every value lies within its limits."""
+    header = A in ALPHABETS and D in DEPTHS and len(first) in LENGTHS and len(second) in LENGTHS
+    return header and all(symbol in range(A) for symbol in [*first, *second])
+
+
+def write_into(first, second, A, D, buffer):
+    """Writes the file into a lent buffer, whose bytes past the file's end stay. 15: bad values; after it
+    19: a buffer too short."""
+    if not may_be_written(first, second, A, D):
+        return Refused(15)
+    file = write(A, D, first, second)
+    if len(buffer) < len(file):
+        return Refused(19)
+    buffer[: len(file)] = file
+    return Written(len(file))

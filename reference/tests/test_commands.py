@@ -43,8 +43,8 @@ SOURCES = [
     (b"alphabet 2 depth 1 0 x / 1", "'x' is no number"),
     (b"alphabet 2 depth 1 0 -1 / 1", "'-1' is no number"),
     (b"alphabet 2 depth 1 0 / 16384", "'16384' is no number"),
-    (b"alphabet 2 depth 1 0 2 / 1", "refused 15: A number in the file is outside its limits."),
-    (b"alphabet 2 depth 7 0 / 1", "refused 15: A number in the file is outside its limits."),
+    (b"alphabet 2 depth 1 0 2 / 1", "refused 15: A number of the file, read or to be written, is outside its limits."),
+    (b"alphabet 2 depth 7 0 / 1", "refused 15: A number of the file, read or to be written, is outside its limits."),
 ]
 
 

@@ -1,9 +1,9 @@
-"""The reader: the readings of the file rules, 1 to 9, and the limits."""
+"""The reader: the readings of the file rules, 1 to 9, and the limits. The writer: reading 28, and the limits."""
 
 import unittest
 
-from reference.answers import Refused, Shape
-from reference.sitting_file import read, samples_of, write
+from reference.answers import Refused, Shape, Written
+from reference.sitting_file import read, samples_of, write, write_into
 
 
 def read_hex(text):
@@ -67,3 +67,69 @@ class Accepted(unittest.TestCase):
     def test_empty_samples(self):
         file = write(3, 2, (), (2, 1))
         self.assertEqual(samples_of(file, read(file)), ((), (2, 1)))
+
+
+LONGEST = (1,) * 512
+ROOM = 1040  # more bytes than any file has
+BLANK = 0xEE
+
+
+class Writing(unittest.TestCase):
+    def written(self, first, second, A, D, room=ROOM):
+        """The file that is written into a buffer of so many bytes; those past its end stay."""
+        buffer = bytearray([BLANK] * room)
+        answer = write_into(first, second, A, D, buffer)
+        self.assertIsInstance(answer, Written)
+        self.assertEqual(buffer[answer.length :], bytes([BLANK] * (room - answer.length)))
+        return bytes(buffer[: answer.length])
+
+    def refused(self, number, first, second, A, D, room=ROOM):
+        buffer = bytearray([BLANK] * room)
+        self.assertEqual(write_into(first, second, A, D, buffer), Refused(number))
+        self.assertEqual(buffer, bytes([BLANK] * room), "a refused call leaves the buffer")
+
+    def test_bytes(self):
+        self.assertEqual(self.written((0, 1, 0), (1,), 2, 1).hex(" "), "02 01 03 01 00 01 00 01")
+        self.assertEqual(self.written((), (), 8, 6).hex(" "), "08 06 00 00")
+
+    def test_lengths_in_their_shortest_form(self):
+        forms = {0: "00", 1: "01", 127: "7f", 128: "80 01", 129: "81 01", 256: "80 02", 511: "ff 03", 512: "80 04"}
+        for length, form in forms.items():
+            symbols = (1,) * length
+            self.assertEqual(self.written(symbols, (), 2, 0), bytes.fromhex(f"02 00 {form} 00") + bytes(symbols))
+            self.assertEqual(self.written((), symbols, 2, 0), bytes.fromhex(f"02 00 00 {form}") + bytes(symbols))
+
+    def test_limits_of_alphabet_and_depth(self):
+        for A, D in [(2, 0), (8, 0), (2, 6)]:
+            self.assertEqual(self.written((1,), (0,), A, D), bytes([A, D, 1, 1, 1, 0]))
+        for A, D in [(0, 0), (1, 0), (9, 0), (2, 7), (258, 0), (2, 256), (2**32 - 1, 0), (2, 2**32 - 1)]:
+            self.refused(15, (), (), A, D)
+
+    def test_limits_of_lengths(self):
+        self.assertEqual(len(self.written(LONGEST, LONGEST, 2, 0)), 1030)
+        self.refused(15, LONGEST + (1,), (), 2, 0)
+        self.refused(15, (), LONGEST + (1,), 2, 0)
+
+    def test_limits_of_symbols(self):
+        for A in range(2, 9):
+            good, bad = (0, A - 1, 0), (0, A, 0)
+            self.assertEqual(self.written(good, good, A, 0), bytes([A, 0, 3, 3, *good, *good]))
+            self.refused(15, bad, good, A, 0)
+            self.refused(15, good, bad, A, 0)
+
+    def test_limits_of_the_buffer(self):
+        for first, second in [((), ()), ((0, 1), (1,)), (LONGEST, ()), (LONGEST, LONGEST)]:
+            file = write(2, 1, first, second)
+            for room in (0, len(file) - 1):
+                self.refused(19, first, second, 2, 1, room)
+            for room in (len(file), len(file) + 1, len(file) + 9):
+                self.assertEqual(self.written(first, second, 2, 1, room), file)
+
+    def test_bad_values_go_before_a_short_buffer(self):
+        for room in (0, 3, 5):
+            self.refused(15, (0,), (1,), 1, 0, room)
+            self.refused(15, (0,), (1,), 2, 7, room)
+            self.refused(15, (2,), (1,), 2, 0, room)
+            self.refused(15, (0,), (2,), 2, 0, room)
+            self.refused(15, LONGEST + (1,), (1,), 2, 0, room)
+            self.refused(19, (0,), (1,), 2, 0, room)
