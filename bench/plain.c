@@ -151,3 +151,46 @@ uint32_t plain_chart(const trie *t, uint32_t length, uint32_t code, uint32_t sym
     if (seen == 3) shares[2] = shares[0] - shares[1];
     return seen;
 }
+
+// ---- the sitting file
+
+enum { LIMIT = 512, OUTSIDE = 15, SHORT = 19 };
+
+// A number of one group of seven bits, or of two.
+static uint8_t *put_number(uint8_t *to, size_t number) {
+    if (number >= 128) *to++ = 128 + number % 128, number /= 128;
+    *to++ = number;
+    return to;
+}
+
+size_t plain_file(const recording *r, uint8_t *file) {
+    uint8_t *to = file;
+    *to++ = r->alphabet;
+    *to++ = r->depth;
+    for (int i = 0; i < 2; i++) to = put_number(to, r->size[i]);
+    for (int i = 0; i < 2; i++) {
+        memcpy(to, r->sample[i], r->size[i]);
+        to += r->size[i];
+    }
+    return to - file;
+}
+
+static int below(const uint8_t *symbols, size_t many, uint32_t alphabet) {
+    for (size_t i = 0; i < many; i++)
+        if (symbols[i] >= alphabet) return 0;
+    return 1;
+}
+
+static int within(const recording *r) {
+    if (r->alphabet < 2 || r->alphabet > 8 || r->depth > 6) return 0;
+    if (r->size[0] > LIMIT || r->size[1] > LIMIT) return 0;
+    return below(r->sample[0], r->size[0], r->alphabet) && below(r->sample[1], r->size[1], r->alphabet);
+}
+
+uint32_t plain_write(const recording *r, uint8_t *file, size_t room, size_t *written) {
+    if (!within(r)) return OUTSIDE;
+    size_t length = 4 + (r->size[0] >= 128) + (r->size[1] >= 128) + r->size[0] + r->size[1];
+    if (length > room) return SHORT;
+    *written = plain_file(r, file);
+    return 0;
+}

@@ -1,5 +1,6 @@
-// The same sittings in plain C with no checks at all: a trie in an array, and the report by recursion over it.
+// The same sittings in plain C: a trie in an array, and the report by recursion over it. Nothing is checked, but by plain_write.
 #pragma once
+#include <stddef.h>
 #include <stdint.h>
 
 enum { NODES = 8192, ROOT = 0, UNSEEN = NODES - 1 }; // the last node stands for every context that is not held
@@ -16,11 +17,23 @@ typedef struct {
     node nodes[NODES];
 } trie;
 
+// A sitting that is to be written as a file.
+typedef struct {
+    const uint8_t *sample[2];
+    size_t size[2];
+    uint32_t alphabet, depth;
+} recording;
+
 void plain_start(trie *t, uint32_t alphabet, uint32_t depth);
 void plain_feed_all(trie *t, uint32_t sample, const uint8_t *symbols, uint32_t many);
 // Writes the rows at the beginning of the sheet; answers how many.
 uint32_t plain_report(trie *t, uint32_t *sheet, int64_t *score);
 // Which samples saw a context (1 the first, 2 the second, 3 both), and a symbol's shares in it and their difference.
 uint32_t plain_chart(const trie *t, uint32_t length, uint32_t code, uint32_t symbol, double shares[3]);
+// Writes the sitting file; answers its length.
+size_t plain_file(const recording *r, uint8_t *file);
+// The same after the library's checks: 15 where the alphabet, the depth, a length or any symbol is outside its limits, else 19
+// where the file has more than `room` bytes. Answers 0 where it is written.
+uint32_t plain_write(const recording *r, uint8_t *file, size_t room, size_t *written);
 // Computes the logarithms. To be called once.
 void plain_logarithms(void);
