@@ -38,5 +38,16 @@ extern "C" {
         gap: *mut f64,
     ) -> u32;
     pub fn sobumikeyo_read(file: *const u8, file_len: usize, shape: *mut [u32; 4]) -> u32;
+    pub fn sobumikeyo_write(
+        first: *const u8,
+        first_len: usize,
+        second: *const u8,
+        second_len: usize,
+        alphabet: u32,
+        depth: u32,
+        file: *mut u8,
+        file_len: usize,
+        written: *mut usize,
+    ) -> u32;
     pub fn sobumikeyo_sound(store: *const u32, store_len: usize) -> bool;
 }

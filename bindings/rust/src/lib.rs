@@ -32,7 +32,7 @@ mod report;
 mod store;
 
 pub use chart::{Chart, Point};
-pub use file::{read, SittingFile};
+pub use file::{read, write, SittingFile};
 pub use refusal::{Refusal, Stopped};
 pub use report::{Context, Kind, Report, Row, ROW_WIDTH};
 pub use store::{store_size, Desk, Sample, Store};

@@ -26,7 +26,7 @@ impl Refusal {
     /// The refusal that `Context::of` gives for what no sitting can have.
     pub(crate) const NOT_OF_SITTING: Refusal = Refusal { number: 8 };
 
-    /// Its number, 1 to 18; never 0.
+    /// Its number, 1 to 19; never 0.
     pub fn number(self) -> u32 {
         self.number
     }
@@ -81,7 +81,7 @@ impl From<Stopped> for Refusal {
 const UNKNOWN: (&str, &str) = ("This is no refusal that is known here.", "See that the library is the one of this crate.");
 
 /// What happened and what to do, refusal 1 first.
-const WORDS: [(&str, &str); 18] = [
+const WORDS: [(&str, &str); 19] = [
     (
         "The store was never made, or its numbers were changed from outside.",
         "Make it anew, or go back to a copy that was kept; only the calls may write to it.",
@@ -106,12 +106,13 @@ const WORDS: [(&str, &str); 18] = [
     ("The file ends too early.", "See that all of it was copied, and that it has as many symbols as its header says."),
     ("A number in the file is not in its shortest form.", "Write it in as few bytes as it needs, which is never more than two."),
     (
-        "A number in the file is outside its limits.",
+        "A number of the file, read or to be written, is outside its limits.",
         "Keep the alphabet from 2 to 8, the depth to 6, each length to 512, and each symbol below the alphabet's size.",
     ),
     ("The file goes on after its last symbol.", "Take the last bytes away, or correct the lengths in its header."),
     ("The room asked for is outside its limits.", "Ask for room for 1 to 4,096 contexts."),
     ("Too few numbers were lent for the store.", "Lend at least 2,048 numbers and 24 more for each context of its room."),
+    ("The bytes lent are fewer than the file has.", "Lend as many bytes as the two samples have symbols and 6 more."),
 ];
 
 #[cfg(test)]
@@ -132,7 +133,7 @@ mod tests {
 
     #[test]
     fn the_words_are_the_tables() {
-        let ours: Vec<_> = (1..=18)
+        let ours: Vec<_> = (1..=19)
             .map(|number| Refusal { number })
             .map(|refusal| (refusal.number.to_string(), refusal.happened().to_string(), refusal.advice().to_string()))
             .collect();
@@ -141,7 +142,7 @@ mod tests {
 
     #[test]
     fn a_number_outside_the_table_has_words() {
-        for number in [19, u32::MAX] {
+        for number in [99, u32::MAX] {
             let words = format!("refused {number}: This is no refusal that is known here. See that the library is the one of this crate.");
             assert_eq!(Refusal { number }.to_string(), words);
         }
