@@ -22,7 +22,7 @@ is proved; what they promise is in docs/PROMISES.md.
 """
 
 from sobumikeyo.charts import Chart
-from sobumikeyo.files import SittingFile, read
+from sobumikeyo.files import SittingFile, read, write
 from sobumikeyo.refusals import Refusal, Stopped
 from sobumikeyo.reports import ROW_WIDTH, Context, Kind, Report, Row
 from sobumikeyo.store import Sample, Store, store_size
@@ -41,4 +41,5 @@ __all__ = [
     "Store",
     "read",
     "store_size",
+    "write",
 ]

@@ -1,11 +1,13 @@
 """Sitting files."""
 
-from ctypes import byref, c_uint8, c_uint32
+from ctypes import byref, c_size_t, c_uint8, c_uint32
 from typing import NamedTuple
 
-from sobumikeyo.arguments import array_of, byte_run
+from sobumikeyo.arguments import array_of, byte_run, number
 from sobumikeyo.library import calls
 from sobumikeyo.refusals import refuse_unless_zero
+
+LONGEST_HEADER = 6  # alphabet and depth in a byte each, both lengths in two
 
 
 class SittingFile(NamedTuple):
@@ -33,3 +35,23 @@ def read(file):
     # the symbols are the file's last n + m bytes
     symbols = file[len(file) - n - m :]
     return SittingFile(alphabet, depth, symbols[:n], symbols[n:])
+
+
+def write(first, second, alphabet, depth):
+    """The bytes of the sitting file of two samples (each bytes, or numbers below 256), in shortest form;
+    refusal 15 where a file may not have those values. `read` reads the same back, and an accepted file
+    written again has the same bytes.
+
+    >>> write([0, 1, 0], [1], alphabet=2, depth=1)
+    b'\\x02\\x01\\x03\\x01\\x00\\x01\\x00\\x01'
+    >>> write([0, 2, 0], [1], alphabet=2, depth=1)
+    Traceback (most recent call last):
+    sobumikeyo.refusals.Refusal: refused 15: A number of the file, read or to be written, is outside its limits. Keep the alphabet from 2 to 8, the depth to 6, each length to 512, and each symbol below the alphabet's size.
+    """
+    first, second = byte_run(first, "first"), byte_run(second, "second")
+    shape = number(alphabet, "alphabet"), number(depth, "depth")
+    room = LONGEST_HEADER + len(first) + len(second)  # always enough, so that 19 is never given
+    file, written = (c_uint8 * room)(), c_size_t()
+    samples = *array_of(c_uint8, first), *array_of(c_uint8, second)
+    refuse_unless_zero(calls()["write"](*samples, *shape, file, room, byref(written)))
+    return bytes(file[: written.value])

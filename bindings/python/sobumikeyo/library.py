@@ -9,6 +9,7 @@ from pathlib import Path
 OWN = Path(__file__).resolve().parents[3] / "target" / "libsobumikeyo.so"
 
 STORE = [POINTER(c_uint32), c_size_t]
+BYTES = [POINTER(c_uint8), c_size_t]
 NUMBERS = [c_uint32]
 OUT = [POINTER(c_uint32)]
 
@@ -17,12 +18,13 @@ FUNCTIONS = {
     "make": (c_uint32, STORE + NUMBERS),
     "open": (c_uint32, STORE + 4 * NUMBERS),
     "feed": (c_uint32, STORE + 3 * NUMBERS),
-    "feed_all": (c_uint32, STORE + 2 * NUMBERS + [POINTER(c_uint8), c_size_t] + OUT),
+    "feed_all": (c_uint32, STORE + 2 * NUMBERS + BYTES + OUT),
     "close": (c_uint32, STORE + NUMBERS),
     "room": (c_uint32, STORE + OUT),
     "report": (c_uint32, STORE + NUMBERS + STORE + NUMBERS + OUT + [POINTER(c_int64)]),
     "chart": (c_uint32, STORE + 4 * NUMBERS + OUT + 3 * [POINTER(c_double)]),
-    "read": (c_uint32, [POINTER(c_uint8), c_size_t, POINTER(c_uint32 * 4)]),
+    "read": (c_uint32, BYTES + [POINTER(c_uint32 * 4)]),
+    "write": (c_uint32, 2 * BYTES + 2 * NUMBERS + BYTES + [POINTER(c_size_t)]),
     "sound": (c_bool, STORE),
 }
 

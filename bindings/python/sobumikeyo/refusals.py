@@ -114,7 +114,7 @@ WORDS = {
         "Write it in as few bytes as it needs, which is never more than two.",
     ),
     15: (
-        "A number in the file is outside its limits.",
+        "A number of the file, read or to be written, is outside its limits.",
         "Keep the alphabet from 2 to 8, the depth to 6, each length to 512, and each symbol below the alphabet's size.",
     ),
     16: (
@@ -128,5 +128,9 @@ WORDS = {
     18: (
         "Too few numbers were lent for the store.",
         "Lend at least 2,048 numbers and 24 more for each context of its room.",
+    ),
+    19: (
+        "The bytes lent are fewer than the file has.",
+        "Lend as many bytes as the two samples have symbols and 6 more.",
     ),
 }

@@ -5,7 +5,7 @@ from array import array
 from io import BytesIO, StringIO
 from pathlib import Path
 
-from sobumikeyo import ROW_WIDTH, Context, Refusal, Sample, Store, read, store_size
+from sobumikeyo import ROW_WIDTH, Context, Refusal, Sample, Store, read, store_size, write
 
 EMPTY = Context.of([])
 SHEET = array("I", [0] * ROW_WIDTH * 8)
@@ -31,6 +31,7 @@ CALLS = {
     "report_on": {"desk": 0, "sheet": SHEET, "place": 0},
     "chart": {"desk": 0, "context": EMPTY, "symbol": 0},
 }
+WRITTEN = {"first": [0], "second": [1], "alphabet": 2, "depth": 1}
 NUMBERED = [(call, name) for call, right in CALLS.items() for name in right if name not in ("symbols", "sheet", "context")]
 
 
@@ -110,6 +111,24 @@ class Arguments(unittest.TestCase):
             self.wrong(TypeError, "file must be bytes or whole numbers in a row, not ", read, value)
         self.wrong(TypeError, r"file\[0\] must be a whole number, not a value of type str", read, ["2"])
         self.wrong(ValueError, r"file\[1\] must be a whole number from 0 to 255, not 256", read, [2, 256])
+
+    def test_files_to_be_written(self):
+        def wrong(kind, words, name, value):
+            self.wrong(kind, f"{name}{words}", write, **{**WRITTEN, name: value})
+
+        for name in ("alphabet", "depth"):
+            for value in NO_NUMBERS:
+                wrong(TypeError, " must be a whole number, not ", name, value)
+            for value in OUTSIDE:
+                wrong(ValueError, " must be a whole number from 0 to 4294967295, not ", name, value)
+            with self.assertRaises(Refusal):
+                write(**{**WRITTEN, name: 2**32 - 1})
+        for name in ("first", "second"):
+            for value in NO_RUNS:
+                wrong(TypeError, " must be bytes or whole numbers in a row, not ", name, value)
+            wrong(TypeError, r"\[0\] must be a whole number, not a value of type str", name, ["0"])
+            wrong(ValueError, r"\[1\] must be a whole number from 0 to 255, not 256", name, [0, 256])
+            wrong(ValueError, r"\[0\] must be a whole number from 0 to 255, not -1", name, [-1])
 
 
 if __name__ == "__main__":
