@@ -50,8 +50,8 @@ int main(int words, char **word) {
                   {0, library, &shorter, INNER, 0}};
     race_or_count(jobs, 4, ROUNDS);
     double each = jobs[0].ns / (2 * LONGEST), each_of_few = jobs[3].ns / (2 * SHORT);
-    line(jobs[0].ns / jobs[1].ns, 3, "writing a sitting file of 512 + 512 symbols: times plain C with the same checks");
-    line(jobs[0].ns / jobs[2].ns, 0, "    times plain C without any checks");
+    line(jobs[0].ns / jobs[1].ns, 3, "writing a sitting file, 512 + 512 symbols: times plain C, which checks too");
+    line(jobs[0].ns / jobs[2].ns, 0, "    times plain C, which checks nothing");
     line(each, 0, "    ns for each symbol");
     line(each / each_of_few, 1.25, "    time for each symbol, 512 + 512 symbols by 64 + 64");
     return 0;
