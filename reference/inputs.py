@@ -208,11 +208,11 @@ def other_depth(random, sitting):
     return sitting._replace(D=random.choice([0, 5, 6, 7, 8, 128, 256, 16383]))
 
 
-def with_sample(random, sitting, changed):
+def with_sample(random, sitting, change):
     """The sitting with one of its samples changed."""
     samples = list(sitting.samples)
     which = random.randrange(2)
-    samples[which] = changed(samples[which])
+    samples[which] = change(samples[which])
     return sitting._replace(samples=tuple(samples))
 
 
