@@ -4,3 +4,4 @@ pub mod Accepted
 pub mod Refused
 pub mod Settled
 pub mod StoresSettled
+pub mod RoundTrips

@@ -3,3 +3,4 @@ pub mod Sizes
 pub mod Answers
 pub mod RoundTrip
 pub mod Settled
+pub mod Examples

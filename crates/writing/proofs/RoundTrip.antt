@@ -17,7 +17,7 @@ use Rattle.sitting_file.proofs.AnswerOnly.{answer-only}
 use Rattle.sitting_file.proofs.AcceptedFile.{accepted-holds}
 use Rattle.sitting_file.proofs.Rewritten.{accepted-bytes}
 use Rattle.writing.specs.Writing.{shapeOf, fileOf, goodValues}
-use Rattle.writing.specs.RoundTrips.{ReadsAs, ReadsBack, SameAgain, WritesBack, NeverShort}
+use Rattle.writing.specs.RoundTrips.{ReadsAs, ReadsBack, WritesBack, NeverShort}
 use Rattle.writing.proofs.Good.{Good, good, file-parts, of-format, file-symbols}
 use Rattle.writing.proofs.Sizes.{file-fits}
 use Rattle.writing.proofs.Answers.{one-number, good-answers, bad-refused, accepted}

@@ -3,15 +3,15 @@ use Prim.Native.Nat.{ℕ, _+_, _≤_, _<_}
 use native.Mathlib.Omega.{arith}
 use mathlib.Core.Path.{_≡_, refl, ap, _∙_}
 use mathlib.Core.Bool.{Bool, true, false}
-use mathlib.Core.List.{List, []}
+use mathlib.Core.List.{List}
 use lib.Dec.{ltb}
 use lib.ListN.{length, length-append}
 use borrow.Author.Tests.{ltb-true, ltb-false}
 use Rattle.sitting_file.specs.Format.{highBit}
 use Rattle.sitting_file.specs.Samples.{longestHeader}
-use Rattle.sitting_file.specs.Verdict.{shortest, written, withHeader}
+use Rattle.sitting_file.specs.Verdict.{shortest}
 use Rattle.sitting_file.proofs.Shortest.{one-byte, two-bytes}
-use Rattle.writing.specs.Writing.{shapeOf, fileOf}
+use Rattle.writing.specs.Writing.{fileOf}
 use Rattle.writing.proofs.Good.{Good, file-parts}
 
 -- one byte where the first group holds the number, else two
@@ -35,10 +35,7 @@ module _ (A D : ℕ) (xs ys : List ℕ) (h : Good A D xs ys) where
       let l = h .limits in
       let a = one-long A (omega (arith, l .alphabet-high)) in
       let d = one-long D (omega (arith, l .depth-high)) in
-      let n = shortest (length xs) in
-      let m = shortest (length ys) in
-      ap length (file-parts A D xs ys h)
-      ∙ simp length-append (omega (arith, a, d))
+      ap length (file-parts A D xs ys h) ∙ simp length-append (omega (arith, a, d))
 
   pub file-fits : length (fileOf A D xs ys) ≤ longestHeader + (length xs + length ys)
   file-fits = omega (arith, file-long, at-most-two (length xs), at-most-two (length ys))

@@ -5,7 +5,7 @@ use mathlib.Core.Path.{_≡_, refl}
 use mathlib.Core.List.{List, [], _++_}
 use borrow.Author.Needs.{needs}
 use lib.ListN.{length}
-use Rattle.placing.specs.Placing.{HasRoom, Puts}
+use Rattle.placing.specs.Placing.{HasRoom}
 use Rattle.placing.proofs.Laws.{room-front, room-back, puts-then}
 use Rattle.sitting_file.specs.Verdict.{written, withHeader}
 use Rattle.writing.specs.Writing.{shapeOf, fileOf}

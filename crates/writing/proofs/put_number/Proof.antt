@@ -1,6 +1,6 @@
 -- `writing::put_number` meets its contract: one byte or two. Assumes nothing.
 use Prim.Native.Nat.{ℕ, _+_, _/_, _%_}
-use mathlib.Core.Path.{_≡_, sym, subst}
+use mathlib.Core.Path.{sym, subst}
 use mathlib.Core.List.{List, [], _∷_}
 use borrow.Author.Needs.{needs}
 use Rattle.placing.specs.Placing.{HasRoom, Puts}
