@@ -1,4 +1,5 @@
 #include "plain.h"
+#include "stores.h"
 #include <math.h>
 #include <string.h>
 
@@ -154,7 +155,7 @@ uint32_t plain_chart(const trie *t, uint32_t length, uint32_t code, uint32_t sym
 
 // ---- the sitting file
 
-enum { LIMIT = 512, OUTSIDE = 15, SHORT = 19 };
+enum { OUTSIDE = 15, SHORT = 19 };
 
 // A number of one group of seven bits, or of two.
 static uint8_t *put_number(uint8_t *to, size_t number) {
@@ -183,7 +184,7 @@ static int below(const uint8_t *symbols, size_t many, uint32_t alphabet) {
 
 static int within(const recording *r) {
     if (r->alphabet < 2 || r->alphabet > 8 || r->depth > 6) return 0;
-    if (r->size[0] > LIMIT || r->size[1] > LIMIT) return 0;
+    if (r->size[0] > LONGEST || r->size[1] > LONGEST) return 0;
     return below(r->sample[0], r->size[0], r->alphabet) && below(r->sample[1], r->size[1], r->alphabet);
 }
 

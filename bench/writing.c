@@ -5,7 +5,7 @@
 #include "timing.h"
 #include <string.h>
 
-enum { SHORT = 64, ROOM = SOBUMIKEYO_FILE_ROOM(LONGEST, LONGEST), INNER = 40, ROUNDS = 2000 };
+enum { FEW = 64, ROOM = SOBUMIKEYO_FILE_ROOM(LONGEST, LONGEST), INNER = 40, ROUNDS = 2000 };
 
 static uint8_t file[ROOM], plain[ROOM];
 static size_t length, plain_length;
@@ -42,14 +42,14 @@ int main(int words, char **word) {
     static uint8_t text[2][LONGEST];
     asked(words, word);
     for (uint32_t i = 0; i < 2; i++) string_of(text[i], LONGEST, (habit){4, 4, i});
-    // the symbols are 0 to 3: an alphabet of 3 is refused as those of 1 and 9 and the depth 7 are
+    // the symbols are 0 to 3: alphabets of 2 and 3 are refused where one is not below them, those of 1 and 9 and the depth 7 always
     for (uint32_t alphabet = 1; alphabet <= 9; alphabet++)
         for (uint32_t depth = 6; depth <= 7; depth++) agree((recording){{text[0], text[1]}, {0, 0}, alphabet, depth});
-    recording longest = {{text[0], text[1]}, {LONGEST, LONGEST}, 4, 4}, shorter = {{text[0], text[1]}, {SHORT, SHORT}, 4, 4};
+    recording longest = {{text[0], text[1]}, {LONGEST, LONGEST}, 4, 4}, shorter = {{text[0], text[1]}, {FEW, FEW}, 4, 4};
     job jobs[] = {{0, library, &longest, INNER, 0}, {0, checked, &longest, INNER, 0}, {0, unchecked, &longest, INNER, 0},
                   {0, library, &shorter, INNER, 0}};
     race_or_count(jobs, 4, ROUNDS);
-    double each = jobs[0].ns / (2 * LONGEST), each_of_few = jobs[3].ns / (2 * SHORT);
+    double each = jobs[0].ns / (2 * LONGEST), each_of_few = jobs[3].ns / (2 * FEW);
     line(jobs[0].ns / jobs[1].ns, 3, "writing a sitting file, 512 + 512 symbols: times plain C, which checks too");
     line(jobs[0].ns / jobs[2].ns, 0, "    times plain C, which checks nothing");
     line(each, 0, "    ns for each symbol");

@@ -9,7 +9,7 @@ from reference.contexts import strings_up_to
 from reference.counts import UNSEEN, N, counts_by_place, total
 from reference.difference import Difference, demand_equal
 from reference.estimate import Recursion, Scale
-from reference.inputs import damaged_file, drawn_file, drawn_sample, drawn_sitting, drawn_values
+from reference.inputs import damaged_file, drawn_file, drawn_room, drawn_sample, drawn_sitting, drawn_values
 from reference.limits import ALPHABETS, DEPTHS
 from reference.logarithm import L, follows_rule
 from reference.program import INPUT_BYTES
@@ -144,14 +144,13 @@ def check_writing(random, tally):
     A, D, samples = drawn_values(random)
     file = write(A, D, *samples)
     shape = read(file)
-    room = random.choice([0, len(file) - 1, len(file), len(file) + 1, random.randrange(1100)])
-    before = random.randbytes(room)
+    before = random.randbytes(drawn_room(random, file))
     buffer = bytearray(before)
-    answer = write_into(*samples, A, D, buffer)
-    rule = shape if isinstance(shape, Refused) else Refused(19) if room < len(file) else Written(len(file))
-    demand_equal("writer", (A, D, samples, room), rule=rule, written=answer)
+    answer = write_into(A, D, *samples, buffer)
+    rule = shape if isinstance(shape, Refused) else Refused(19) if len(before) < len(file) else Written(len(file))
+    demand_equal("writer", (A, D, samples, len(before)), rule=rule, written=answer)
     end = answer.length if isinstance(answer, Written) else 0
-    demand_equal("lent buffer", (A, D, samples, room), rule=file[:end] + before[end:], written=bytes(buffer))
+    demand_equal("lent buffer", (A, D, samples, len(before)), rule=file[:end] + before[end:], written=bytes(buffer))
     kind = f"refused {answer.number}" if isinstance(answer, Refused) else "written"
     tally["writer: values, by what the reader says of their file", kind] += 1
 
@@ -163,7 +162,7 @@ def check_written_again(random, tally):
     if isinstance(shape, Refused):
         return
     buffer = bytearray(len(file))
-    answer = write_into(*samples_of(file, shape), shape.A, shape.D, buffer)
+    answer = write_into(shape.A, shape.D, *samples_of(file, shape), buffer)
     demand_equal("length written again", file.hex(), rule=Written(len(file)), written=answer)
     demand_equal("file written again", file.hex(), read=file, written=bytes(buffer))
     tally["writer: accepted files written again", ""] += 1

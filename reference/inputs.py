@@ -216,8 +216,12 @@ def with_sample(random, sitting, change):
     return sitting._replace(samples=tuple(samples))
 
 
+# around one group and two, and around the limit
+EDGE_LENGTHS = [0, 1, *range(126, 130), 255, 256, *range(SAMPLE_LIMIT - 2, SAMPLE_LIMIT + 3), SAMPLE_LIMIT + 128]
+
+
 def other_length(random, sitting):
-    length = random.choice([0, 1, 126, 127, 128, 129, 255, 256, 510, 511, 512, 513, 514, 640])
+    length = random.choice(EDGE_LENGTHS)
     return with_sample(random, sitting, lambda sample: ((sample or (0,)) * length)[:length])
 
 
@@ -241,6 +245,11 @@ def drawn_values(random):
     for _ in range(random.choice([0, 1, 1, 1, 2, 3])):
         sitting = random.choice(CHANGES)(random, sitting)
     return sitting
+
+
+def drawn_room(random, file):
+    """How many bytes are lent for a file: around its length, none, or any number up to more than the longest file has."""
+    return random.choice([0, len(file) - 1, len(file), len(file) + 1, random.randrange(2 * SAMPLE_LIMIT + 80)])
 
 
 def fixed_files():

@@ -88,16 +88,16 @@ def write(A, D, first, second):
     return b"".join(map(number_bytes, numbers))
 
 
-def may_be_written(first, second, A, D):
+def may_be_written(A, D, first, second):
     """Whether every value lies within its limits."""
     header = A in ALPHABETS and D in DEPTHS and len(first) in LENGTHS and len(second) in LENGTHS
     return header and all(symbol in range(A) for symbol in [*first, *second])
 
 
-def write_into(first, second, A, D, buffer):
+def write_into(A, D, first, second, buffer):
     """Writes the file into a lent buffer, whose bytes past the file's end stay. 15: bad values; after it
     19: a buffer too short."""
-    if not may_be_written(first, second, A, D):
+    if not may_be_written(A, D, first, second):
         return Refused(15)
     file = write(A, D, first, second)
     if len(buffer) < len(file):

@@ -78,14 +78,14 @@ class Writing(unittest.TestCase):
     def written(self, first, second, A, D, room=ROOM):
         """The file that is written into a buffer of so many bytes; those past its end stay."""
         buffer = bytearray([BLANK] * room)
-        answer = write_into(first, second, A, D, buffer)
+        answer = write_into(A, D, first, second, buffer)
         self.assertIsInstance(answer, Written)
         self.assertEqual(buffer[answer.length :], bytes([BLANK] * (room - answer.length)))
         return bytes(buffer[: answer.length])
 
     def refused(self, number, first, second, A, D, room=ROOM):
         buffer = bytearray([BLANK] * room)
-        self.assertEqual(write_into(first, second, A, D, buffer), Refused(number))
+        self.assertEqual(write_into(A, D, first, second, buffer), Refused(number))
         self.assertEqual(buffer, bytes([BLANK] * room), "a refused call leaves the buffer")
 
     def test_bytes(self):

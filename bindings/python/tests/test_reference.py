@@ -10,15 +10,19 @@ from random import Random
 from play import answers
 from reference.answers import Refused
 from reference.built import BuiltProgram, BuiltScripts
-from reference.inputs import damaged_file, drawn_file, drawn_values, fixed_files
+from reference.inputs import damaged_file, drawn_file, drawn_room, drawn_values, fixed_files
+from reference.limits import SAMPLE_LIMIT
+from reference.sitting_file import write as file_of
 from reference.sitting_file import write_into
 from sitting import output
 from sobumikeyo import Refusal, read, write
 
+from tests.test_files import AFTER, UNTOLD, blank, told
+
 ROUNDS = 2
 FILES_A_ROUND = 100
 WRITTEN = 500
-LONGEST_FILE = 1030
+LONGEST_FILE = 6 + 2 * SAMPLE_LIMIT
 
 
 class Scripts(BuiltScripts):
@@ -66,11 +70,19 @@ def answer_of(call, *values):
 def reference_file(first, second, alphabet, depth):
     """The file that the second program writes, or its refusal."""
     buffer = bytearray(LONGEST_FILE)
-    answer = write_into(first, second, alphabet, depth, buffer)
+    answer = write_into(alphabet, depth, first, second, buffer)
     return answer if isinstance(answer, Refused) else bytes(buffer[: answer.length])
 
 
-class Written(unittest.TestCase):
+def reference_told(first, second, alphabet, depth, room):
+    """The same as `told` of the second program: number, bytes lent, bytes after them, length."""
+    buffer = bytearray(blank(room))
+    answer = write_into(alphabet, depth, first, second, buffer)
+    number, length = (answer.number, UNTOLD) if isinstance(answer, Refused) else (0, answer.length)
+    return number, bytes(buffer), blank(AFTER), length
+
+
+class WrittenFiles(unittest.TestCase):
     def test_drawn_values(self):
         """The same bytes or the same refusal; what is written reads back as the same sitting."""
         tally = Counter()
@@ -82,6 +94,20 @@ class Written(unittest.TestCase):
             if not isinstance(file, Refused):
                 self.assertEqual(read(file), (alphabet, depth, bytes(first), bytes(second)), f"values {place}")
         self.assertGreater(min(tally[True], tally[False]), WRITTEN // 4, "both kinds are drawn")
+
+    def test_drawn_bytes_lent(self):
+        """The call itself, with drawn numbers of bytes lent: the same number, the same bytes and the same length."""
+        tally, too_long = Counter(), 0
+        for place in range(WRITTEN):
+            random = Random(f"lent {place}")
+            alphabet, depth, samples = drawn_values(random)
+            values = *map(bytes, samples), alphabet, depth, drawn_room(random, file_of(alphabet, depth, *samples))
+            answer = told(*values)
+            self.assertEqual(answer, reference_told(*values), f"lent {place}")
+            tally[answer[0]] += 1
+            too_long += max(map(len, samples)) > SAMPLE_LIMIT
+        self.assertEqual(sorted(tally), [0, 15, 19])
+        self.assertGreater(min(*tally.values(), too_long), WRITTEN // 20, "every answer is drawn, and lengths above the limit")
 
     def test_accepted_files_again(self):
         """A file that was read without a fault has the same bytes when it is written again."""

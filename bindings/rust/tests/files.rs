@@ -45,7 +45,7 @@ fn every_limit() {
     for (depth, good) in [(0, true), (6, true), (7, false), (256, false), (65536, false), (u32::MAX, false)] {
         assert_eq!(check(&[0, 1], &[1], 2, depth), good);
     }
-    for (length, good) in [(0, true), (1, true), (127, true), (128, true), (512, true), (513, false), (640, false)] {
+    for (length, good) in [(0, true), (1, true), (127, true), (128, true), (LIMIT, true), (LIMIT + 1, false), (LIMIT + 128, false)] {
         assert_eq!(check(&vec![1; length], &[0], 2, 1), good);
         assert_eq!(check(&[0], &vec![1; length], 2, 1), good);
     }
@@ -72,7 +72,7 @@ impl Draw {
 
     /// A sample of symbols below the alphabet's size; one in four has one symbol more that may be any.
     fn sample(&mut self, alphabet: u32) -> Vec<u8> {
-        let longest = [8, 200, 520][self.below(3) as usize];
+        let longest = [8, 200, LIMIT as u32 + 8][self.below(3) as usize];
         let mut symbols: Vec<u8> = (0..self.below(longest)).map(|_| self.below(alphabet.max(1)) as u8).collect();
         if self.below(4) == 0 {
             let any = [alphabet, LARGEST_BYTE + 1][self.below(2) as usize];

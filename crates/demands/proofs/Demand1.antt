@@ -9,6 +9,7 @@ use Rattle.replay.specs.Table.{Outcome, refused, answered, verdictOf, inOrder}
 use Rattle.replay.specs.Machine.{opening, asking, closing, Call, atDesk, roomQuestion, tableOf, answerOf, verdict}
 use Rattle.replay.proofs.Tables.{no-refusal, refused-exactly, answered-exactly}
 use Rattle.replay.proofs.Refusals.{tables-rise}
+use Rattle.writing.specs.Writing.{fileOf, writingLines, WritesFile}
 use Rattle.store.specs.Making.{roomOutside, storeShort, madeOf, Makes}
 use Rattle.store.specs.declared.Made.{Made}
 use Rattle.store.specs.declared.Made.the-variants.{Done, RoomOutside, StoreShort}
@@ -17,7 +18,7 @@ use Rattle.store.specs.Meaning.{meaning}
 use Rattle.rules.specs.Rules.{Answer, done, feed, reporting, charting, rules}
 use Rattle.rules.proofs.Numbers.{lines-rise}
 use Rattle.demands.specs.Runs.{Does}
-use Rattle.demands.specs.Demands.{tableOn, Demand1, Demand1Sheet, makingTable, makingOf, Demand1Making}
+use Rattle.demands.specs.Demands.{tableOn, Demand1, Demand1Sheet, makingTable, makingOf, Demand1Making, Demand1Writing}
 use Rattle.demands.proofs.Contracts.{answers}
 
 -- refused 1 where the numbers do not pass the test
@@ -77,4 +78,15 @@ demand-1-making K σ τ m makes =
       refused-exactly = λ n. rw e (refused-exactly (makingTable K (length σ)) done n);
       made-exactly = rw e (answered-exactly (makingTable K (length σ)) done);
       refused-stays = λ n r. makes .refused-kept (λ f. no-refusal (ap makingOf f) r);
+    }
+
+pub demand-1-writing : (A D : ℕ) (xs ys before after : List ℕ) (o : Outcome ℕ) → WritesFile A D xs ys before o after → Demand1Writing A D xs ys before o after
+unfolding inOrder
+demand-1-writing A D xs ys before after o w =
+    let lines = writingLines A D xs ys (length before) in
+    record {
+      refused-exactly = λ n. rw (w .answers) (refused-exactly lines (length (fileOf A D xs ys)) n);
+      written-exactly = rw (w .answers) (answered-exactly lines (length (fileOf A D xs ys)));
+      numbers-rise = tt;
+      refused-stays = w .refused-stays;
     }

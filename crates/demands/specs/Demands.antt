@@ -19,6 +19,7 @@ use Rattle.replay.specs.Table.{Line, _when_, Outcome, refused, answered, NoneAp
 use Rattle.replay.specs.Machine.{opening, asking, Call, atDesk, tableOf, answerOf}
 use Rattle.replay.specs.Serial.{Told, Course, calls, answers, struck, sittings, serial, callsAt, openings}
 use Rattle.replay.specs.Alone.{latest, asks}
+use Rattle.writing.specs.Writing.{fileOf, writingLines}
 use Rattle.store.specs.Making.{roomOutside, storeShort}
 use Rattle.store.specs.declared.Made.{Made}
 use Rattle.store.specs.declared.Made.the-variants.{Done, RoomOutside, StoreShort}
@@ -63,6 +64,13 @@ pub record Demand1Making (K : ℕ) (σ : List ℕ) (m : Made) (τ : List ℕ) : 
   pub refused-exactly : (n : ℕ) → (makingOf m ≡ refused n) ↔ First (makingTable K (length σ)) n
   pub made-exactly : (makingOf m ≡ answered done) ↔ NoneApplies (makingTable K (length σ))
   pub refused-stays : (n : ℕ) → makingOf m ≡ refused n → τ ≡ σ
+
+-- a writing of the file of A, D and two samples (document 02, E1) into the bytes `before`, which answers o and leaves `after`
+pub record Demand1Writing (A D : ℕ) (xs ys before : List ℕ) (o : Outcome ℕ) (after : List ℕ) : Type 0 where
+  pub refused-exactly : (n : ℕ) → (o ≡ refused n) ↔ First (writingLines A D xs ys (length before)) n
+  pub written-exactly : (o ≡ answered (length (fileOf A D xs ys))) ↔ NoneApplies (writingLines A D xs ys (length before))
+  pub numbers-rise : T (inOrder 1 (writingLines A D xs ys (length before)))
+  pub refused-stays : (n : ℕ) → o ≡ refused n → after ≡ before
 
 -- ---- DEMAND 2: "A report is the joint context tree estimate .."
 

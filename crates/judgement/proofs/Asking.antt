@@ -13,6 +13,7 @@ use Rattle.rows.proofs.Written.{rows-read}
 use Rattle.replay.specs.Room.{Room}
 use Rattle.replay.specs.Table.{Line, _when_, lineNumber, applies, Outcome, refused, answered, verdictOf}
 use Rattle.replay.specs.Machine.{asking, atDesk, verdict, tableOf, tableAt, askingTable, ownLines, answerOf, answerAt}
+use Rattle.replay.proofs.Tables.{number-same}
 use Rattle.rules.specs.Report.{Reported, report, doesNotFit, someEmpty}
 use Rattle.rules.specs.Rules.{Answer, reporting, reported, rules, linesOf}
 use Rattle.rules.specs.Rules as sitting
@@ -75,9 +76,6 @@ reported-same e = cc
 
 pub never : {B : Type 0} {n : ℕ} {x : Answer} → _≡_ {A = Outcome Answer} (answered x) (refused n) → B
 never e = let z : _≡_ {A = ℕ} 0 1 = cc in absurd (omega arith)
-
-pub number-same : {n m : ℕ} → _≡_ {A = Outcome Answer} (refused n) (refused m) → n ≡ m
-number-same e = cc
 
 module _ (shape : Shape) (its : Reported) (store sheet sheet′ : List ℕ) where
   abbrev mine : FileReport

@@ -8,6 +8,7 @@ use Rattle.contexts.specs.Sitting.{Progress, contextsHeld}
 use Rattle.replay.specs.Room.{Room}
 use Rattle.replay.specs.Table.{Line, Outcome, refused, answered, verdictOf}
 use Rattle.replay.specs.Machine.{asking, atDesk, verdict}
+use Rattle.replay.proofs.Tables.{number-same}
 use Rattle.rules.specs.Report.{Reported, report}
 use Rattle.rules.specs.Rules.{done, reporting, reported, rules}
 use Rattle.calls.specs.Refusals.{refusalNumber, writtenOf, endingOf}
@@ -31,7 +32,7 @@ use Rattle.judgement.specs.declared.SittingAnswer.{SittingAnswer}
 use Rattle.judgement.specs.declared.SittingAnswer.the-variants as answer
 use Rattle.judgement.proofs.Feeds.{Ran, whole, stopped}
 use Rattle.judgement.proofs.Both.{file-told}
-use Rattle.judgement.proofs.Asking.{alike, late, asked, never, number-same, told-right, sheet-right}
+use Rattle.judgement.proofs.Asking.{alike, late, asked, never, told-right, sheet-right}
 
 module _ (file store sheet : List ℕ) where
   from-judged : (x : Reading) → readOf file ≡ x → (j : Outcome FileReport) → judged file (length sheet) x ≡ j → (r : SittingAnswer) (store′ sheet′ : List ℕ)

@@ -1,4 +1,4 @@
--- A text put into bytes, and one text after another. Assumes nothing.
+-- A piece put into bytes, and one piece after another. Assumes nothing.
 use Prim.Native.Nat.{ℕ, _+_, _<_}
 use native.Mathlib.Omega.{arith}
 use native.Mathlib.Numerals.{add-one}
@@ -9,14 +9,18 @@ use lib.ListN.{length, getD, take, drop, set, length-append, length-take, length
 use lib.Seq.{take-suc, set-split, take-at, drop-at, drop-drop, length-take-le}
 use Rattle.placing.specs.Placing.{laid, HasRoom, Puts}
 
--- ---- one text
+-- ---- one piece
 
-module _ (text : List ℕ) (at : ℕ) (before : List ℕ) where
-  pub laid-length : HasRoom text at before → length (laid text at before) ≡ length before
+module _ (piece : List ℕ) (at : ℕ) (before : List ℕ) where
+  pub laid-length : HasRoom piece at before → length (laid piece at before) ≡ length before
   laid-length h = simp (length-append, length-take, length-drop) (omega arith)
 
-  pub puts-length : HasRoom text at before → (after : List ℕ) (r : ℕ) → Puts text at before after r → length after ≡ length before
+  pub puts-length : HasRoom piece at before → (after : List ℕ) (r : ℕ) → Puts piece at before after r → length after ≡ length before
   puts-length h after r put = ap length (put .bytes) ∙ laid-length h
+
+-- THEOREM. Two results that one promise allows are equal
+pub puts-settled : (piece : List ℕ) (at : ℕ) (before x y : List ℕ) (r s : ℕ) → Puts piece at before x r → Puts piece at before y s → (r ≡ s) × (x ≡ y)
+puts-settled piece at before x y r s p q = (p .next ∙ sym (q .next), p .bytes ∙ sym (q .bytes))
 
 -- one byte stored
 pub puts-byte : (byte at : ℕ) (before : List ℕ) → HasRoom (byte ∷ []) at before → Puts (byte ∷ []) at before (set before at byte) (at + 1)
@@ -26,7 +30,7 @@ puts-byte byte at before h = record { next = refl; bytes = set-split before at b
 pub puts-none : (at : ℕ) (before : List ℕ) → Puts [] at before before at
 puts-none at before = record { next = sym (add-zero at); bytes = rw (add-zero, take-append-drop) }
 
--- ---- one text after another
+-- ---- one piece after another
 
 module _ (whole p q : List ℕ) (e : whole ≡ p ++ q) (at : ℕ) (a : List ℕ) (room : HasRoom whole at a) where
   long : length whole ≡ length p + length q
@@ -55,22 +59,22 @@ module _ (whole p q : List ℕ) (e : whole ≡ p ++ q) (at : ℕ) (a : List ℕ)
           bytes = second .bytes ∙ ap₂ (laid q) (first .next) (first .bytes) ∙ laid-twice;
         }
 
--- ---- the bytes of a text one by one
+-- ---- the bytes of a piece one by one
 
-module _ (text : List ℕ) (at i : ℕ) (a b : List ℕ) (room : HasRoom text at a) (more : i < length text) (so-far : Puts (take i text) at a b (at + i)) where
-  one-more : take (i + 1) text ≡ take i text ++ (getD text i 0 ∷ [])
-  one-more = rw add-one (take-suc text i 0 more)
+module _ (piece : List ℕ) (at i : ℕ) (a b : List ℕ) (room : HasRoom piece at a) (more : i < length piece) (so-far : Puts (take i piece) at a b (at + i)) where
+  one-more : take (i + 1) piece ≡ take i piece ++ (getD piece i 0 ∷ [])
+  one-more = rw add-one (take-suc piece i 0 more)
 
-  beginning : HasRoom (take (i + 1) text) at a
+  beginning : HasRoom (take (i + 1) piece) at a
   beginning = rw length-take (omega arith)
 
-  byte-room : HasRoom (getD text i 0 ∷ []) (at + i) b
-  byte-room = room-back (take (i + 1) text) (take i text) (getD text i 0 ∷ []) one-more at a beginning b (at + i) so-far
+  byte-room : HasRoom (getD piece i 0 ∷ []) (at + i) b
+  byte-room = room-back (take (i + 1) piece) (take i piece) (getD piece i 0 ∷ []) one-more at a beginning b (at + i) so-far
 
   pub next-room : at + i < length b
   next-room = omega (arith, byte-room)
 
-  pub puts-next : Puts (take (i + 1) text) at a (set b (at + i) (getD text i 0)) (at + (i + 1))
+  pub puts-next : Puts (take (i + 1) piece) at a (set b (at + i) (getD piece i 0)) (at + (i + 1))
   puts-next =
       let e : at + i + 1 ≡ at + (i + 1) = omega arith in
-      rw (← e) (puts-then (take (i + 1) text) (take i text) (getD text i 0 ∷ []) one-more at a beginning b (at + i) so-far _ (at + i + 1) (puts-byte (getD text i 0) (at + i) b byte-room))
+      rw (← e) (puts-then (take (i + 1) piece) (take i piece) (getD piece i 0 ∷ []) one-more at a beginning b (at + i) so-far _ (at + i + 1) (puts-byte (getD piece i 0) (at + i) b byte-room))

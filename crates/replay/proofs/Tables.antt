@@ -15,6 +15,13 @@ module _ {A : Type 0} where
   pub no-refusal : {B : Type 0} {o : Outcome A} {a : A} {n : ℕ} → o ≡ answered a → o ≡ refused n → B
   no-refusal p q = let z : _≡_ {A = ℕ} 0 1 = cc in absurd (omega arith)
 
+  -- two refusals that are one have one number, two answers are one
+  pub number-same : {n m : ℕ} → _≡_ {A = Outcome A} (refused n) (refused m) → n ≡ m
+  number-same e = cc
+
+  pub answer-same : {a b : A} → _≡_ {A = Outcome A} (answered a) (answered b) → a ≡ b
+  answer-same e = cc
+
   pub none-answers : (ls : List Line) (x : A) → NoneApplies ls → verdictOf ls x ≡ answered x
   unfolding verdictOf
   none-answers [] x h = refl

@@ -6,7 +6,7 @@ use mathlib.Core.Bool.{Bool, true, false, cond, _&&_}
 use mathlib.Core.List.{List, [], _∷_, _++_}
 use lib.Dec.{leb}
 
--- a line of a call's table: a number of document 01's table, and whether it applies
+-- a line of a call's table: a refusal's number, and whether it applies
 infix 68 _when_
 pub data Line : Type 0 where
   _when_ : ℕ → Bool → Line

@@ -142,7 +142,7 @@ pub extern "C" fn sobumikeyo_write(
 {
     match writing::write(first, second, alphabet, depth, file) {
         Writing::Refused(why) => writing::refusal_number(why),
-        Writing::Written(size) => {
+        Writing::Length(size) => {
             *written = size;
             0
         }

@@ -123,5 +123,5 @@ module _ {A D : ℕ} {xs ys before after : List ℕ} {old size : ℕ} where
     where
       go : (x : Writing) → WritesFile A D xs ys before (writingOutcome x) after → 0 ≡ toldAs (writingOutcome x) → size ≡ lengthAfter (writingOutcome x) old
           → WritesFile A D xs ys before (answered size) after
-      go (put.Written n) p e f = subst (λ (k : ℕ). WritesFile A D xs ys before (answered k) after) (sym f) p
+      go (put.Length n) p e f = subst (λ (k : ℕ). WritesFile A D xs ys before (answered k) after) (sym f) p
       go (put.Refused why) p e f = absurd (omega (arith, writing-above-zero why, e))

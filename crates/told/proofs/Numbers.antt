@@ -10,8 +10,8 @@ use Rattle.sitting_file.specs.Format as format
 use Rattle.sitting_file.specs.declared.Refusal as file
 use Rattle.sitting_file.specs.declared.Refusal.the-variants as fault
 use Rattle.writing.specs.Writing as writing
-use Rattle.writing.specs.declared.Refusal as bad
-use Rattle.writing.specs.declared.Refusal.the-variants as values
+use Rattle.writing.specs.declared.Refusal as writer
+use Rattle.writing.specs.declared.Refusal.the-variants as unwritten
 use Rattle.told.specs.Codes.{toldAs}
 
 -- THEOREM. No refusal has the number 0
@@ -35,9 +35,9 @@ fault-above-zero fault.NotShortest = omega arith
 fault-above-zero fault.OutsideLimits = omega arith
 fault-above-zero fault.BytesLeft = omega arith
 
-pub writing-above-zero : (why : bad.Refusal) → 0 < writing.refusalNumber why
-writing-above-zero values.BadValues = omega arith
-writing-above-zero values.BufferShort = omega arith
+pub writing-above-zero : (why : writer.Refusal) → 0 < writing.refusalNumber why
+writing-above-zero unwritten.BadValues = omega arith
+writing-above-zero unwritten.BufferShort = omega arith
 
 -- a refusal's number is not 0
 pub not-refused : {B : Type 0} (why : Refusal) → 0 ≡ refusalNumber why → B

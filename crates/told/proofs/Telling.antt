@@ -24,7 +24,7 @@ use Rattle.sitting_file.specs.declared.Reading.{Reading}
 use Rattle.sitting_file.specs.declared.Reading.the-variants as reading
 use Rattle.writing.specs.Writing.{WritesFile, writingOutcome}
 use Rattle.writing.specs.Writing as writing
-use Rattle.writing.specs.declared.Refusal as bad
+use Rattle.writing.specs.declared.Refusal as writer
 use Rattle.writing.specs.declared.Writing.{Writing}
 use Rattle.writing.specs.declared.Writing.the-variants as put
 use Rattle.told.specs.Codes.{toldAs, readCode}
@@ -84,7 +84,7 @@ module _ {bytes old : List ℕ} (x : Reading) (p : x ≡ readOf bytes) where
 
 -- ---- a file written
 module _ {A D : ℕ} {xs ys before after : List ℕ} {old : ℕ} (x : Writing) (p : WritesFile A D xs ys before (writingOutcome x) after) where
-  pub write-refused : {why : bad.Refusal} {r : ℕ} → x ≡ put.Refused why → r ≡ writing.refusalNumber why → WriteTold A D xs ys before r after old old
+  pub write-refused : {why : writer.Refusal} {r : ℕ} → x ≡ put.Refused why → r ≡ writing.refusalNumber why → WriteTold A D xs ys before r after old old
   write-refused e n = record {
     answer = x;
     promise = p;
@@ -92,7 +92,7 @@ module _ {A D : ℕ} {xs ys before after : List ℕ} {old : ℕ} (x : Writing) (
     output = sym (ap (λ (a : Writing). lengthAfter (writingOutcome a) old) e);
   }
 
-  pub write-told : {size : ℕ} → x ≡ put.Written size → WriteTold A D xs ys before 0 after old size
+  pub write-told : {size : ℕ} → x ≡ put.Length size → WriteTold A D xs ys before 0 after old size
   write-told e = record {
     answer = x;
     promise = p;

@@ -61,12 +61,12 @@ pub record ReadTold (file : List ℕ) (r : ℕ) (shape shape′ : List ℕ) : Ty
   pub number : r ≡ readCode (readOf file)
   pub output : shape′ ≡ shapeAfter (readOf file) shape
 
--- the file of A, D and two samples, written into the bytes `before`; `length` is where its length is put
-pub record WriteTold (A D : ℕ) (xs ys before : List ℕ) (r : ℕ) (after : List ℕ) (length length′ : ℕ) : Type 0 where
+-- the file of A, D and two samples, written into the bytes `before`; `size` stood where its length is put, `size′` stands there after
+pub record WriteTold (A D : ℕ) (xs ys before : List ℕ) (r : ℕ) (after : List ℕ) (size size′ : ℕ) : Type 0 where
   pub answer : Writing
   pub promise : WritesFile A D xs ys before (writingOutcome answer) after
   pub number : r ≡ toldAs (writingOutcome answer)
-  pub output : length′ ≡ lengthAfter (writingOutcome answer) length
+  pub output : size′ ≡ lengthAfter (writingOutcome answer) size
 
 -- a chart question
 pub record ChartTold (store : List ℕ) (d len code a r seen seen′ : ℕ) (first first′ second second′ gap gap′ : Float) : Type 0 where

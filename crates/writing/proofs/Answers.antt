@@ -9,18 +9,12 @@ use lib.ListN.{length, drop}
 use borrow.Author.Tests.{lt-ltb, le-ltb, not-false}
 use Rattle.numbers.proofs.Tests.{is-true, is-false, of-true}
 use Rattle.replay.specs.Table.{Outcome, refused, answered, verdictOf}
-use Rattle.replay.proofs.Tables.{no-refusal, none-answers, answers-none}
+use Rattle.replay.proofs.Tables.{no-refusal, answer-same, none-answers, answers-none}
 use Rattle.placing.specs.Placing.{Puts}
 use Rattle.writing.specs.Writing.{fileOf, goodValues, writingLines, WritesFile}
 use Rattle.writing.proofs.Good.{Good, good, good-values}
 
 -- ---- the table
-
-pub one-number : {n m : ℕ} → _≡_ {A = Outcome ℕ} (refused n) (refused m) → n ≡ m
-one-number e = cc
-
-one-length : {n m : ℕ} → _≡_ {A = Outcome ℕ} (answered n) (answered m) → n ≡ m
-one-length e = cc
 
 module _ (A D : ℕ) (xs ys : List ℕ) (room : ℕ) where
   -- good values and room enough: the file's length
@@ -62,6 +56,6 @@ module _ (A D : ℕ) (xs ys before : List ℕ) where
       let long : size ≡ length (fileOf A D xs ys) = put .next ∙ zero-add (length (fileOf A D xs ys)) in
       record {
         answers = ap answered long ∙ sym (good-answers A D xs ys (length before) h r);
-        file-written = λ n e. put .bytes ∙ ap (λ (k : ℕ). fileOf A D xs ys ++ drop k before) (sym (put .next) ∙ one-length e);
+        file-written = λ n e. put .bytes ∙ ap (λ (k : ℕ). fileOf A D xs ys ++ drop k before) (sym (put .next) ∙ answer-same e);
         refused-stays = λ n e. no-refusal refl e;
       }

@@ -33,26 +33,26 @@ unfolding shortest
 shortest-file = refl
 
 -- what is answered of two samples with so many bytes lent
-abbrev told : ℕ → ℕ → List ℕ → List ℕ → ℕ → Outcome ℕ
-told A D xs ys room = verdictOf (writingLines A D xs ys room) (length (fileOf A D xs ys))
+abbrev answerTo : ℕ → ℕ → List ℕ → List ℕ → ℕ → Outcome ℕ
+answerTo A D xs ys room = verdictOf (writingLines A D xs ys room) (length (fileOf A D xs ys))
 
-pub just-enough : told 2 1 learner reference 20 ≡ answered 20
+pub just-enough : answerTo 2 1 learner reference 20 ≡ answered 20
 unfolding verdictOf goodValues all shortest
 just-enough = refl
 
-pub one-byte-short : told 2 1 learner reference 19 ≡ refused 19
+pub one-byte-short : answerTo 2 1 learner reference 19 ≡ refused 19
 unfolding verdictOf goodValues all shortest
 one-byte-short = refl
 
 -- "19, after 15": no byte is lent, and the learner's 1 is not below 1; a depth of 7; a symbol 2 of the second
-pub bad-alphabet : told 1 1 learner reference 0 ≡ refused 15
+pub bad-alphabet : answerTo 1 1 learner reference 0 ≡ refused 15
 unfolding verdictOf goodValues all shortest
 bad-alphabet = refl
 
-pub bad-depth : told 2 7 learner reference 0 ≡ refused 15
+pub bad-depth : answerTo 2 7 learner reference 0 ≡ refused 15
 unfolding verdictOf goodValues all shortest
 bad-depth = refl
 
-pub bad-symbol : told 2 1 learner (2 ∷ []) 0 ≡ refused 15
+pub bad-symbol : answerTo 2 1 learner (2 ∷ []) 0 ≡ refused 15
 unfolding verdictOf goodValues all shortest
 bad-symbol = refl

@@ -7,7 +7,7 @@ use lib.ListN.{length, take, drop}
 use lib.Seq.{take-append-seam, drop-append-seam, take-at}
 use Rattle.numbers.proofs.Tests.{T?}
 use Rattle.replay.specs.Table.{answered}
-use Rattle.replay.proofs.Tables.{no-refusal}
+use Rattle.replay.proofs.Tables.{no-refusal, number-same}
 use Rattle.sitting_file.specs.Format.{readOf}
 use Rattle.sitting_file.specs.Samples.{InLimits, firstOf, secondOf}
 use Rattle.sitting_file.specs.Verdict.{Bytes, written, withHeader}
@@ -20,7 +20,7 @@ use Rattle.writing.specs.Writing.{shapeOf, fileOf, goodValues}
 use Rattle.writing.specs.RoundTrips.{ReadsAs, ReadsBack, WritesBack, NeverShort}
 use Rattle.writing.proofs.Good.{Good, good, file-parts, of-format, file-symbols}
 use Rattle.writing.proofs.Sizes.{file-fits}
-use Rattle.writing.proofs.Answers.{one-number, good-answers, bad-refused, accepted}
+use Rattle.writing.proofs.Answers.{good-answers, bad-refused, accepted}
 
 -- the file of good values is accepted as those
 module _ (A D : ℕ) (xs ys : List ℕ) (h : Good A D xs ys) where
@@ -74,5 +74,5 @@ writes-back file shape bytes e before after o room w =
 pub never-short : NeverShort
 never-short A D xs ys before after o room w e = elim (T? (goodValues A D xs ys)) [
   | yes t ↦ no-refusal (w .answers ∙ good-answers A D xs ys (length before) (good A D xs ys t) (omega (arith, file-fits A D xs ys (good A D xs ys t)))) e
-  | no f ↦ let z : _≡_ {A = ℕ} 15 19 = one-number (sym (bad-refused A D xs ys (length before) f) ∙ sym (w .answers) ∙ e) in omega arith
+  | no f ↦ let z : _≡_ {A = ℕ} 15 19 = number-same (sym (bad-refused A D xs ys (length before) f) ∙ sym (w .answers) ∙ e) in omega arith
 ]

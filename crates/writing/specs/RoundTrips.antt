@@ -1,4 +1,4 @@
--- Writing and reading undo each other (document 02, E1). Proved in proofs/RoundTrip. Assumes nothing.
+-- Writing and reading undo each other, and bytes that are always enough (document 02, E1). Proved in proofs/RoundTrip. Assumes nothing.
 use Prim.Native.Nat.{ℕ, _+_, _≤_}
 use mathlib.Core.Path.{_≡_}
 use mathlib.Core.List.{List, _++_}

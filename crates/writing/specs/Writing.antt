@@ -13,7 +13,7 @@ use Rattle.sitting_file.specs.declared.Shape.{Shape}
 use Rattle.writing.specs.declared.Refusal.{Refusal}
 use Rattle.writing.specs.declared.Refusal.the-variants.{BadValues, BufferShort}
 use Rattle.writing.specs.declared.Writing.{Writing}
-use Rattle.writing.specs.declared.Writing.the-variants.{Written, Refused}
+use Rattle.writing.specs.declared.Writing.the-variants.{Length, Refused}
 
 -- A and D, and the lengths of two samples
 abbrev pub shapeOf : ℕ → ℕ → List ℕ → List ℕ → Shape
@@ -48,7 +48,7 @@ refusalNumber BufferShort = 19
 
 -- what an answer says: the file's length, or the refusal's number
 abbrev pub writingOutcome : Writing → Outcome ℕ
-writingOutcome (Written n) = answered n
+writingOutcome (Length n) = answered n
 writingOutcome (Refused why) = refused (refusalNumber why)
 
 -- a writing into the bytes `before`, which answers the file's length or is refused, and leaves `after`
@@ -56,5 +56,5 @@ pub record WritesFile (A D : ℕ) (xs ys before : List ℕ) (o : Outcome ℕ) (a
   pub answers : o ≡ verdictOf (writingLines A D xs ys (length before)) (length (fileOf A D xs ys))
   -- "Bytes past the end of the file stay."
   pub file-written : (n : ℕ) → o ≡ answered n → after ≡ fileOf A D xs ys ++ drop n before
-  -- "A refused call changes" nothing
+  -- a refused call leaves every byte
   pub refused-stays : (n : ℕ) → o ≡ refused n → after ≡ before

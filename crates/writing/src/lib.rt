@@ -23,8 +23,8 @@ pub enum Refusal {
 }
 
 pub enum Writing {
-    // The file's length.
-    Written(usize),
+    // How many bytes the file has.
+    Length(usize),
     Refused(Refusal),
 }
 
@@ -32,14 +32,14 @@ pub enum Writing {
 pub fn write(first: &[u8], second: &[u8], alphabet: u32, depth: u32, file: &mut [u8]) -> Writing
     ensures { λ r. ⌜ WritesFile alphabet depth (now (first .entry)) (now (second .entry)) (now (file .entry)) (writingOutcome r) (now (file .exit)) ⌝ }
 {
-    if good_values(first, second, alphabet, depth) {
-        if file.len() < file_size(first.len(), second.len()) {
-            return Writing::Refused(Refusal::BufferShort);
-        }
-        let size = put_file(first, second, alphabet, depth, file);
-        return Writing::Written(size);
+    if !good_values(first, second, alphabet, depth) {
+        return Writing::Refused(Refusal::BadValues);
     }
-    Writing::Refused(Refusal::BadValues)
+    if file.len() < file_size(first.len(), second.len()) {
+        return Writing::Refused(Refusal::BufferShort);
+    }
+    let size = put_file(first, second, alphabet, depth, file);
+    Writing::Length(size)
 }
 
 // Document 02's number of a refusal.
@@ -122,7 +122,7 @@ fn put_file(first: &[u8], second: &[u8], alphabet: u32, depth: u32, file: &mut [
     put_bytes(file, middle, second)
 }
 
-// Puts the four numbers of a header at the start.
+// Puts the four numbers of a header at the start, and answers the place after them.
 fn put_header(file: &mut [u8], alphabet: usize, depth: usize, n: usize, m: usize) -> usize
     requires { ⌜ (alphabet < twoGroups) × (depth < twoGroups) × (n < twoGroups) × (m < twoGroups) × HasRoom (written (alphabet ∷ depth ∷ n ∷ m ∷ [])) 0 (now file) ⌝ }
     ensures { λ r. ⌜ Puts (written (alphabet ∷ depth ∷ n ∷ m ∷ [])) 0 (now (file .entry)) (now (file .exit)) r ⌝ }

@@ -11,10 +11,10 @@ use Rattle.placing.proofs.put_bytes.Statement.{statement}
 use Rattle.placing.proofs.put_bytes.Tie as tie
 
 abbrev Inv-loop : tie.InvT-loop
-Inv-loop buffer₀ at text i₀ buffer i = (i ≤ length text) × Puts (take i text) at buffer₀ buffer (at + i)
+Inv-loop buffer₀ at piece i₀ buffer i = (i ≤ length piece) × Puts (take i piece) at buffer₀ buffer (at + i)
 
 abbrev μ-loop : tie.MeasureT-loop
-μ-loop buffer₀ at text i₀ buffer i = length text - i
+μ-loop buffer₀ at piece i₀ buffer i = length piece - i
 
 loop-holds : tie.Need-loop-holds Inv-loop μ-loop
 loop-holds c = (omega arith, rw add-zero (puts-none (c .args .at) (c .args .buffer .now)))
@@ -29,7 +29,7 @@ slice-write-buffer : tie.Need-slice-write-buffer Inv-loop μ-loop
 slice-write-buffer c =
     let l = c .before .before in
     let s = l .before in
-    next-room (s .args .text .now) (s .args .at) (l .loop .i) (s .args .buffer .now) (l .loop .buffer) (s .pre) (c .before .loop-test .taken) (l .loop .inv .1)
+    next-room (s .args .piece .now) (s .args .at) (l .loop .i) (s .args .buffer .now) (l .loop .buffer) (s .pre) (c .before .loop-test .taken) (l .loop .inv .1)
 
 add-i : tie.Need-add-i Inv-loop μ-loop
 add-i c = omega arith
@@ -41,21 +41,21 @@ loop-again : tie.Need-loop-again Inv-loop μ-loop
 loop-again c =
     let l = c .before .before in
     let s = l .before in
-    (omega arith, puts-next (s .args .text .now) (s .args .at) (l .loop .i) (s .args .buffer .now) (l .loop .buffer) (s .pre) (c .before .loop-test .taken) (l .loop .inv .1))
+    (omega arith, puts-next (s .args .piece .now) (s .args .at) (l .loop .i) (s .args .buffer .now) (l .loop .buffer) (s .pre) (c .before .loop-test .taken) (l .loop .inv .1))
 
 add-result : tie.Need-add-result Inv-loop μ-loop
 add-result c = omega arith
 
-whole : (c : tie.After-loop Inv-loop μ-loop) → let s = c .before .before in Puts (s .args .text .now) (s .args .at) (s .args .buffer .now) (c .before .loop .buffer) (s .args .at + length (s .args .text .now))
+whole : (c : tie.After-loop Inv-loop μ-loop) → let s = c .before .before in Puts (s .args .piece .now) (s .args .at) (s .args .buffer .now) (c .before .loop .buffer) (s .args .at + length (s .args .piece .now))
 whole c =
     let l = c .before .loop in
     let s = c .before .before in
-    let e : l .i ≡ length (s .args .text .now) = omega arith in
-    let t : take (l .i) (s .args .text .now) ≡ s .args .text .now = ap (λ (n : ℕ). take n (s .args .text .now)) e ∙ take-length (s .args .text .now) in
+    let e : l .i ≡ length (s .args .piece .now) = omega arith in
+    let t : take (l .i) (s .args .piece .now) ≡ s .args .piece .now = ap (λ (n : ℕ). take n (s .args .piece .now)) e ∙ take-length (s .args .piece .now) in
     rw (← e) (rw t at (l .inv .1))
 
 same-length : tie.Need-same-length Inv-loop μ-loop
-same-length c = puts-length (c .before .before .args .text .now) (c .before .before .args .at) (c .before .before .args .buffer .now) (c .before .before .pre) _ _ (whole c)
+same-length c = puts-length (c .before .before .args .piece .now) (c .before .before .args .at) (c .before .before .args .buffer .now) (c .before .before .pre) _ _ (whole c)
 
 returns : tie.Need-returns Inv-loop μ-loop
 returns c = whole c

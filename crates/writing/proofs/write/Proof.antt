@@ -4,6 +4,7 @@ use native.Mathlib.Omega.{arith}
 use mathlib.Core.Path.{_≡_, sym, _∙_}
 use mathlib.Core.List.{List}
 use borrow.Author.Needs.{needs}
+use borrow.Author.Tests.{not-true, not-false}
 use lib.Dec.{T}
 use lib.ListN.{length}
 use Rattle.numbers.proofs.Tests.{of-true, not-both, is-true}
@@ -30,10 +31,10 @@ module _ (s : tie.Start) where
 abbrev start : tie.After-good-values → tie.Start
 start g = g .before .before .before .before
 
-passed : (c : tie.Then1) → let s = start (c .before) in T (goodValues (A s) (D s) (xs s) (ys s))
-passed c = of-true _ (sym (c .before .good-values .ensures) ∙ c .if1 .taken)
+passed : (c : tie.Else1) → let s = start (c .before) in T (goodValues (A s) (D s) (xs s) (ys s))
+passed c = of-true _ (sym (c .before .good-values .ensures) ∙ not-false _ (c .if1 .left))
 
-values : (c : tie.Then1) → let s = start (c .before) in Good (A s) (D s) (xs s) (ys s)
+values : (c : tie.Else1) → let s = start (c .before) in Good (A s) (D s) (xs s) (ys s)
 values c = let s = start (c .before) in good (A s) (D s) (xs s) (ys s) (passed c)
 
 -- what `file_size` answered is the file's length
@@ -45,11 +46,16 @@ size z =
 good-values-requires : tie.Need-good-values-requires
 good-values-requires c κs = search needs
 
+returns : tie.Need-returns
+returns c =
+    let s = start (c .before) in
+    bad-stays (A s) (D s) (xs s) (ys s) (s .args .file .now) (λ t. not-both _ (is-true _ t) (sym (c .before .good-values .ensures) ∙ not-true _ (c .if1 .taken)))
+
 file-size-requires : tie.Need-file-size-requires
 file-size-requires c κs = let l = values c .limits in (l .first-high, l .second-high)
 
-returns : tie.Need-returns
-returns c =
+returns-2 : tie.Need-returns-2
+returns-2 c =
     let z = c .before in
     let s = start (z .before .before) in
     short-stays (A s) (D s) (xs s) (ys s) (s .args .file .now) (values (z .before)) (omega (arith, size z, c .if2 .taken))
@@ -64,26 +70,21 @@ put-file-requires c κs = (passed (c .before .before .before), omega (arith, roo
 same-length : tie.Need-same-length
 same-length c = search needs
 
-returns-2 : tie.Need-returns-2
-returns-2 c =
+returns-3 : tie.Need-returns-3
+returns-3 c =
     let p = c .before .before in
     let e = p .before .before in
     let s = start (e .before .before .before) in
     file-put (A s) (D s) (xs s) (ys s) (s .args .file .now) (values (e .before .before)) (room e) _ _ (p .put-file .ensures)
-
-returns-3 : tie.Need-returns-3
-returns-3 c =
-    let s = start (c .before) in
-    bad-stays (A s) (D s) (xs s) (ys s) (s .args .file .now) (λ t. not-both _ (is-true _ t) (sym (c .before .good-values .ensures) ∙ c .if1 .left))
 
 pub write-spec : {M : Type 1} → statement M
 write-spec =
     tie.close
     (tie.spec
     good-values-requires
-    file-size-requires
     returns
+    file-size-requires
+    returns-2
     put-file-requires
     same-length
-    returns-2
     returns-3)
