@@ -8,7 +8,7 @@ use lib.Dec.{T}
 use lib.ListN.{length, drop}
 use borrow.Author.Tests.{lt-ltb, le-ltb, not-false}
 use Rattle.numbers.proofs.Tests.{is-true, is-false, of-true}
-use Rattle.replay.specs.Table.{Outcome, refused, answered, verdictOf}
+use Rattle.replay.specs.Table.{refused, answered, verdictOf}
 use Rattle.replay.proofs.Tables.{no-refusal, answer-same, none-answers, answers-none}
 use Rattle.placing.specs.Placing.{Puts}
 use Rattle.writing.specs.Writing.{fileOf, goodValues, writingLines, WritesFile}
