@@ -41,7 +41,7 @@ module _ (file : List ℕ) where
   fault-at us rest low high why e f = ap (firstGroup low high (place us)) (ap (drop (place us)) e ∙ drop-append-seam (written us) rest) ∙ fault-found why low high (place us) rest f
 
   -- the header is read, whatever stands after it
-  header-on : (shape : Shape) (ss rest : List ℕ) → file ≡ written (withHeader shape ss) ++ rest → Follow [] (withHeader shape ss) → headerOf file ≡ Whole shape (place (withHeader shape []))
+  pub header-on : (shape : Shape) (ss rest : List ℕ) → file ≡ written (withHeader shape ss) ++ rest → Follow [] (withHeader shape ss) → headerOf file ≡ Whole shape (place (withHeader shape []))
   header-on shape ss rest e f =
       let A = shape .alphabet in
       let D = shape .depth in

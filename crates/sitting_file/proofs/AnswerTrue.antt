@@ -84,6 +84,11 @@ module _ (file : List ℕ) where
       (λ n at₃ q₃. step Heads Faulty (λ why f. f) (A ∷ D ∷ n ∷ []) at₃ 0 longest refl q₃ _
       (λ m at₄ q₄. q₄))))
 
+  -- a whole header ends where its four numbers in their shortest forms do
+  pub header-place : Bytes file → (shape : Shape) (at : ℕ) → headerOf file ≡ Whole shape at → at ≡ length (written (withHeader shape []))
+  unfolding Heads
+  header-place bytes shape at e = subst Heads e (header-true bytes) .place
+
   pub answer-true : Bytes file → Verdict file (readOf file)
   unfolding bodyOf Heads
   answer-true bytes = go (headerOf file) (header-true bytes)

@@ -106,6 +106,14 @@ module _ (file : List ℕ) (bytes : ℕ) (inside-file : bytes ≤ length file) w
       whole (record { alphabet = A; depth = D; first = n; second = m }) at₄
       (record { alphabet-low = f₁ .low-kept; alphabet-high = f₁ .high-kept; depth-high = f₂ .high-kept; first-high = f₃ .high-kept; second-high = f₄ .high-kept }) (omega arith)))))
 
+  -- the header is the same
+  pub same-header : longestHeader + 2 ≤ bytes → headerOf file ≡ headerOf first
+  same-header h = go (header-alike h)
+    where
+      go : {head part : Heading} → Alike head part → head ≡ part
+      go (faulty why n) = refl
+      go (whole shape at l k) = refl
+
   pub first-bytes-judge : longestFile < bytes → ShowsFault file bytes
   unfolding bodyOf
   first-bytes-judge h =

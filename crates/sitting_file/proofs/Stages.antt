@@ -3,17 +3,18 @@ use Prim.Native.Nat.{ℕ, _≤_}
 use mathlib.Core.Path.{_≡_, refl, ap, ap₂, _∙_}
 use mathlib.Core.List.{List}
 use native.Mathlib.Omega.{arith}
-use lib.ListN.{length}
+use lib.ListN.{length, drop}
 use Rattle.numbers.specs.Limits.{fewestSymbols, mostSymbols, deepest, longest}
 use Rattle.sitting_file.specs.Format.{numberAt, andThen, headerOf}
 use Rattle.sitting_file.specs.Samples.{InLimits, longestHeader}
 use Rattle.sitting_file.specs.declared.Shape.{Shape}
 use Rattle.sitting_file.specs.declared.Refusal.{Refusal}
+use Rattle.sitting_file.specs.declared.Refusal.the-variants.{BytesLeft}
 use Rattle.sitting_file.specs.declared.Number.{Number}
 use Rattle.sitting_file.specs.declared.Number.the-variants.{Value, Fault}
 use Rattle.sitting_file.specs.declared.Heading.{Heading}
 use Rattle.sitting_file.specs.declared.Heading.the-variants.{Whole, Faulty}
-use Rattle.sitting_file.proofs.Groups.{number-found}
+use Rattle.sitting_file.proofs.Groups.{Told, no-group, half, not-short, outside, inside, tells, number-found}
 
 -- ---- the header, as far as it was read
 
@@ -40,6 +41,38 @@ module _ (file : List ℕ) where
         pub header-whole : (m at₄ : ℕ) → numberAt file at₃ 0 longest ≡ Value m at₄ → headerOf file ≡ Whole (record { alphabet = A; depth = D; first = n; second = m }) at₄
         unfolding headerOf
         header-whole m at₄ e = rw (e₁, e₂, e₃, e)
+
+-- ---- no fault of a header is 16
+
+told-fault : {low high at : ℕ} {bytes : List ℕ} {n : Number} {why : Refusal} → Told low high at bytes n → n ≡ Fault why → why ≡ BytesLeft → ⊥
+told-fault no-group e q = let z : _≡_ {A = ℕ} 0 1 = cc in omega arith
+told-fault (half big) e q = let z : _≡_ {A = ℕ} 0 1 = cc in omega arith
+told-fault (not-short big f) e q = let z : _≡_ {A = ℕ} 0 1 = cc in omega arith
+told-fault (outside s f) e q = let z : _≡_ {A = ℕ} 0 1 = cc in omega arith
+told-fault (inside s l k) e q = let z : _≡_ {A = ℕ} 0 1 = cc in omega arith
+
+abbrev NotLeft : Heading → Type 0
+NotLeft h = (why : Refusal) → h ≡ Faulty why → why ≡ BytesLeft → ⊥
+
+module _ (file : List ℕ) where
+  -- a number's fault stops the header, or the header goes on
+  goes-on : (at low high : ℕ) (go : ℕ → ℕ → Heading) → ((v next : ℕ) → NotLeft (go v next)) → NotLeft (andThen (numberAt file at low high) Faulty go)
+  goes-on at low high go onward = by (numberAt file at low high) refl
+    where
+      by : (n : Number) → numberAt file at low high ≡ n → NotLeft (andThen n Faulty go)
+      by (Value v next) e = onward v next
+      by (Fault w) e = λ why f q. told-fault (tells low high at (drop at file)) e cc
+
+  pub header-fault : NotLeft (headerOf file)
+  unfolding headerOf
+  header-fault =
+      goes-on 0 fewestSymbols mostSymbols _
+      (λ A at₁. goes-on at₁ 0 deepest _
+      (λ D at₂. goes-on at₂ 0 longest _
+      (λ n at₃. goes-on at₃ 0 longest _
+      (λ m at₄ why e q. let z : _≡_ {A = ℕ} 0 1 = cc in omega arith))))
+
+-- ---- a header that was read
 
 -- what went on to a whole header has found its number
 record Went (x : Number) (go : ℕ → ℕ → Heading) (shape : Shape) (at : ℕ) : Type 0 where

@@ -1,0 +1,153 @@
+-- What a salvage answers by the header and the writer's answer, and that what the code leaves then keeps the promise. Assumes nothing.
+use Prim.Native.Nat.{ℕ, _+_, _-_, _≤_, _<_}
+use native.Mathlib.Decide.{decLe}
+use native.Mathlib.Omega.{arith}
+use mathlib.Core.Path.{_≡_, refl, sym, ap, ap₂, subst, _∙_}
+use mathlib.Core.List.{List, [], _++_}
+use lib.ListN.{length, take, drop, length-append, length-take, length-drop}
+use lib.Seq.{take-at, drop-drop}
+use borrow.Author.Tests.{lt-ltb, le-ltb}
+use Rattle.numbers.specs.Limits.{longest}
+use Rattle.replay.specs.Table.{Outcome, refused, answered, verdictOf}
+use Rattle.replay.proofs.Tables.{no-refusal, answer-same, number-same}
+use Rattle.sitting_file.specs.Format.{headerOf}
+use Rattle.sitting_file.specs.Format as format
+use Rattle.sitting_file.specs.declared.Shape.{Shape}
+use Rattle.sitting_file.specs.declared.Heading.{Heading}
+use Rattle.sitting_file.specs.declared.Heading.the-variants.{Whole, Faulty}
+use Rattle.sitting_file.specs.declared.Refusal as file
+use Rattle.sitting_file.proofs.Stages.{header-read}
+use Rattle.writing.specs.Writing.{fileOf, writingOutcome, WritesFile}
+use Rattle.writing.specs.Writing as writing
+use Rattle.writing.specs.declared.Writing.{Writing}
+use Rattle.writing.specs.declared.Writing.the-variants as writer
+use Rattle.writing.proofs.Good.{Good}
+use Rattle.writing.proofs.Answers.{good-answers, good-short, accepted}
+use Rattle.salvage.specs.Salvage.{firstBytes, secondBytes, keptBytes, firstKept, secondKept, goneOf, cutOff, lostOf, Saved, savedOf, salvageOf, toldBy, salvageOutcome, Within, Salvages}
+use Rattle.salvage.specs.declared.Gone.{Gone}
+use Rattle.salvage.specs.declared.Lost.{Lost}
+use Rattle.salvage.proofs.Keeping.{kept-begins, kept-fits}
+
+-- ---- a faulty header
+
+pub fault-stays : (damaged before : List ℕ) (why : file.Refusal) → headerOf damaged ≡ Faulty why → Salvages damaged before (refused (format.refusalNumber why)) before
+unfolding salvageOf
+fault-stays damaged before why e = record {
+  answers = sym (ap (λ (h : Heading). salvageOf h damaged (length before)) e);
+  file-written = λ s f. no-refusal f refl;
+  refused-stays = λ n f. refl;
+}
+
+-- ---- a whole one
+
+module _ (damaged : List ℕ) (shape : Shape) (at : ℕ) (whole : headerOf damaged ≡ Whole shape at) where
+  abbrev body : List ℕ
+  body = drop at damaged
+
+  abbrev saved : Saved
+  saved = savedOf shape body
+
+  -- what is kept makes a file of document 01's format
+  pub kept-good : Good (shape .alphabet) (shape .depth) (firstKept shape body) (secondKept shape body)
+  kept-good =
+      let l = header-read damaged shape at whole .limits in
+      let first = kept-fits (shape .alphabet) (firstBytes shape body) in
+      let second = kept-fits (shape .alphabet) (secondBytes shape body) in
+      record {
+        limits = record {
+          alphabet-low = l .alphabet-low;
+          alphabet-high = l .alphabet-high;
+          depth-high = l .depth-high;
+          first-high = omega (arith, l .first-high, first, length-take (shape .first) body);
+          second-high = omega (arith, l .second-high, second, length-take (shape .second) (drop (shape .first) body));
+        };
+        first-below = kept-begins (shape .alphabet) (firstBytes shape body) .below;
+        second-below = kept-begins (shape .alphabet) (secondBytes shape body) .below;
+      }
+
+  pub saved-answers : (room : ℕ) → length (saved .file) ≤ room → salvageOf (headerOf damaged) damaged room ≡ answered saved
+  unfolding salvageOf verdictOf
+  saved-answers room h = rw (whole, le-ltb room (length (saved .file)) h)
+
+  pub saved-short : (room : ℕ) → room < length (saved .file) → salvageOf (headerOf damaged) damaged room ≡ refused 19
+  unfolding salvageOf verdictOf
+  saved-short room h = rw (whole, lt-ltb room (length (saved .file)) h)
+
+  -- ---- by the writer's answer
+
+  module _ (before after : List ℕ) where
+    abbrev Wrote : Outcome ℕ → Type 0
+    Wrote o = WritesFile (shape .alphabet) (shape .depth) (firstKept shape body) (secondKept shape body) before o after
+
+    -- the writer refuses too few bytes alone
+    pub none-saved : (n : ℕ) → Wrote (refused n) → Salvages damaged before (refused 19) after
+    none-saved n w = elim (decLe (length (saved .file)) (length before)) [
+      | yes h ↦ no-refusal (good-answers (shape .alphabet) (shape .depth) (firstKept shape body) (secondKept shape body) (length before) kept-good h) (sym (w .answers))
+      | no h ↦ record { answers = sym (saved-short (length before) (omega arith)); file-written = λ s e. no-refusal e refl; refused-stays = λ m e. w .refused-stays n refl }
+    ]
+
+    module _ (size : ℕ) (w : Wrote (answered size)) where
+      size-told : length (saved .file) ≡ size
+      size-told = accepted (shape .alphabet) (shape .depth) (firstKept shape body) (secondKept shape body) before after size w .1
+
+      left : after ≡ saved .file ++ drop size before
+      left = w .file-written size refl
+
+      left-by : (l : List ℕ) → l ≡ saved .file → after ≡ l ++ drop (length l) before
+      left-by l e = left ∙ ap₂ (λ (f : List ℕ) (k : ℕ). f ++ drop k before) (sym e) (sym size-told ∙ ap length (sym e))
+
+      pub fits : size ≤ length after
+      fits = omega (arith, size-told, ap length left, length-append (saved .file) (drop size before))
+
+      room : length (saved .file) ≤ length before
+      room = elim (decLe (length (saved .file)) (length before)) [
+        | yes h ↦ h
+        | no h ↦ no-refusal (sym (w .answers)) (good-short (shape .alphabet) (shape .depth) (firstKept shape body) (secondKept shape body) (length before) kept-good (omega arith))
+      ]
+
+      -- the file stands at the start of what is left
+      at-start : take size after ≡ saved .file
+      at-start = ap (take size) left ∙ take-at (saved .file) (drop size before) size size-told
+
+      pub file-saved : Salvages damaged before (answered (record { file = take size after; lost = saved .lost })) after
+      file-saved =
+          let same : _≡_ {A = Saved} (record { file = take size after; lost = saved .lost }) saved = ap (λ (l : List ℕ). record { file = l; lost = saved .lost }) at-start in
+          record {
+            answers = ap answered same ∙ sym (saved-answers (length before) room);
+            file-written = λ s e. left-by (s .file) (ap (λ (t : Saved). t .file) (sym (answer-same e) ∙ same));
+            refused-stays = λ n e. no-refusal refl e;
+          }
+
+    -- either way, with what the code tells of it
+    pub saved-by : (x : Writing) (lost : Lost) → lost ≡ saved .lost → Wrote (writingOutcome x) → Salvages damaged before (salvageOutcome (toldBy x lost) after) after × Within (toldBy x lost) after
+    saved-by (writer.Length size) lost e w =
+        (subst (λ (l : Lost). Salvages damaged before (answered (record { file = take size after; lost = l })) after) (sym e) (file-saved size w), fits size w)
+    saved-by (writer.Refused why) lost e w = (none-saved (writing.refusalNumber why) w, tt)
+
+-- ---- as the code has it
+
+module _ (damaged : List ℕ) (shape : Shape) (at : ℕ) where
+  -- the second sample's bytes start n bytes after the header
+  pub second-part : take (shape .second) (drop (at + shape .first) damaged) ≡ secondBytes shape (drop at damaged)
+  second-part = ap (take (shape .second)) (sym (drop-drop (shape .first) at damaged))
+
+  abbrev A : ℕ
+  A = shape .alphabet
+
+  -- what is told of a sample, by bytes and kept ones that are the same
+  pub gone-told : (g : Gone) (wanted : ℕ) (bytes xs kept : List ℕ) → xs ≡ bytes → kept ≡ keptBytes A bytes
+      → (g .missing ≡ wanted - length xs) × (g .dropped ≡ length xs - length kept) → g ≡ goneOf A wanted bytes
+  gone-told g wanted bytes xs kept e f t =
+      ap₂ (λ (m d : ℕ). record { missing = m; dropped = d }) (t .0 ∙ ap (λ (l : List ℕ). wanted - length l) e) (t .1 ∙ ap₂ (λ (l k : List ℕ). length l - length k) e f)
+
+  pub lost-told : (g h : Gone) (cut : ℕ) → g ≡ goneOf A (shape .first) (firstBytes shape (drop at damaged)) → h ≡ goneOf A (shape .second) (secondBytes shape (drop at damaged))
+      → cut ≡ length damaged - (at + shape .first + shape .second) → record { first = g; second = h; cut = cut } ≡ lostOf shape (drop at damaged)
+  lost-told g h cut d e f =
+      let c : cut ≡ cutOff shape (drop at damaged) = omega (arith, f, length-drop (shape .first + shape .second) (drop at damaged), length-drop at damaged) in
+      ap₂ (λ (x y : Gone). record { first = x; second = y; cut = cut }) d e ∙ ap (λ (k : ℕ). record { first = goneOf A (shape .first) (firstBytes shape (drop at damaged)); second = goneOf A (shape .second) (secondBytes shape (drop at damaged)); cut = k }) c
+
+  -- what was written of the same bytes
+  pub same-written : (xs ys before after : List ℕ) (o : Outcome ℕ) → xs ≡ firstKept shape (drop at damaged) → ys ≡ secondKept shape (drop at damaged)
+      → WritesFile A (shape .depth) xs ys before o after → WritesFile A (shape .depth) (firstKept shape (drop at damaged)) (secondKept shape (drop at damaged)) before o after
+  same-written xs ys before after o d e w =
+      subst (λ (l : List ℕ). WritesFile A (shape .depth) (firstKept shape (drop at damaged)) l before o after) e (subst (λ (l : List ℕ). WritesFile A (shape .depth) l ys before o after) d w)

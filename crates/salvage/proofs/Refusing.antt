@@ -1,0 +1,95 @@
+-- A salvage is refused as the reader refuses the file, never with 16, or for too few bytes; as many as the damaged file has are enough. Assumes nothing.
+use Prim.Native.Nat.{ℕ, _+_, _≤_, _<_}
+use native.Mathlib.Decide.{decLt}
+use native.Mathlib.Omega.{arith}
+use mathlib.Core.Path.{_≡_, refl, sym, ap, _∙_}
+use mathlib.Core.Logic.{_⊎_, inl, inr}
+use mathlib.Core.Bool.{Bool, true, false, cond}
+use mathlib.Core.List.{List, []}
+use lib.Dec.{ltb}
+use lib.ListN.{length, drop, length-append, length-take, length-drop}
+use Rattle.replay.specs.Table.{Outcome, refused, answered, verdictOf}
+use Rattle.replay.proofs.Tables.{no-refusal, number-same}
+use Rattle.sitting_file.specs.Format.{highBit, headerOf, bodyOf, readOf}
+use Rattle.sitting_file.specs.Format as format
+use Rattle.sitting_file.specs.Verdict.{Bytes, shortest, written, withHeader}
+use Rattle.sitting_file.specs.declared.Shape.{Shape}
+use Rattle.sitting_file.specs.declared.Refusal.{Refusal}
+use Rattle.sitting_file.specs.declared.Refusal.the-variants.{EndsEarly, NotShortest, OutsideLimits, BytesLeft}
+use Rattle.sitting_file.specs.declared.Heading.{Heading}
+use Rattle.sitting_file.specs.declared.Heading.the-variants.{Whole, Faulty}
+use Rattle.sitting_file.specs.declared.Reading.the-variants.{Refused}
+use Rattle.sitting_file.proofs.AnswerTrue.{header-place}
+use Rattle.sitting_file.proofs.Stages.{header-fault, header-read}
+use Rattle.writing.proofs.Sizes.{one-long, two-long, at-most-two, file-long}
+use Rattle.salvage.specs.Salvage.{firstBytes, secondBytes, firstKept, secondKept, Saved, savedOf, salvageOf, Salvages}
+use Rattle.salvage.specs.Saving.{AsTheReader, NeverLonger}
+use Rattle.salvage.proofs.Keeping.{kept-fits}
+use Rattle.salvage.proofs.Answers.{kept-good, saved-answers}
+
+-- THEOREM. "refused as the reader does", never with 16; or with 19
+pub as-the-reader : AsTheReader
+unfolding salvageOf bodyOf verdictOf
+as-the-reader damaged before after n w = go (headerOf damaged) refl (w .answers)
+  where
+    short : (t : Bool) (s : Saved) → refused n ≡ cond t (refused 19) (answered s) → n ≡ 19
+    short true s e = number-same e
+    short false s e = no-refusal refl (sym e)
+
+    go : (h : Heading) → headerOf damaged ≡ h → refused n ≡ salvageOf h damaged (length before)
+        → ((why : Refusal) × (readOf damaged ≡ Refused why) × (n ≡ format.refusalNumber why) × (why ≡ BytesLeft → ⊥)) ⊎ (n ≡ 19)
+    go (Faulty why) q e = inl (why, ap (bodyOf damaged) q, number-same e, header-fault damaged why q)
+    go (Whole shape at) q e = inr (short (ltb (length before) (length (savedOf shape (drop at damaged) .file))) (savedOf shape (drop at damaged)) e)
+
+-- ---- how long the saved file is
+
+-- a smaller number has no longer form
+shorter : (k v : ℕ) → k ≤ v → length (shortest k) ≤ length (shortest v)
+shorter k v h = elim (decLt k highBit) [
+  | yes l ↦ elim (decLt v highBit) [
+    | yes m ↦ omega (arith, one-long k l, one-long v m)
+    | no m ↦ omega (arith, one-long k l, two-long v (omega arith))
+  ]
+  | no l ↦ omega (arith, at-most-two k, two-long v (omega arith))
+]
+
+module _ (damaged : List ℕ) (bytes : Bytes damaged) (shape : Shape) (at : ℕ) (whole : headerOf damaged ≡ Whole shape at) where
+  abbrev body : List ℕ
+  body = drop at damaged
+
+  header-long : at ≡ 2 + (length (shortest (shape .first)) + length (shortest (shape .second)))
+  header-long =
+      let l = header-read damaged shape at whole .limits in
+      let a = one-long (shape .alphabet) (omega (arith, l .alphabet-high)) in
+      let d = one-long (shape .depth) (omega (arith, l .depth-high)) in
+      header-place damaged bytes shape at whole ∙ simp length-append (omega (arith, a, d))
+
+  pub no-longer : length (savedOf shape body .file) ≤ length damaged
+  no-longer =
+      let n = shape .first in
+      let m = shape .second in
+      let xs = firstBytes shape body in
+      let ys = secondBytes shape body in
+      let long = file-long (shape .alphabet) (shape .depth) (firstKept shape body) (secondKept shape body) (kept-good damaged shape at whole) in
+      let first = kept-fits (shape .alphabet) xs in
+      let second = kept-fits (shape .alphabet) ys in
+      let x : length (firstKept shape body) ≤ n = omega (arith, first, length-take n body) in
+      let y : length (secondKept shape body) ≤ m = omega (arith, second, length-take m (drop n body)) in
+      let there : at + length xs + length ys ≤ length damaged = omega (arith, header-read damaged shape at whole .ends, length-drop at damaged, length-take n body, length-take m (drop n body), length-drop n body) in
+      omega (arith, long, first, second, there, header-long, shorter (length (firstKept shape body)) n x, shorter (length (secondKept shape body)) m y)
+
+-- no fault of a header is 19
+not-19 : (why : Refusal) → format.refusalNumber why ≡ 19 → ⊥
+not-19 EndsEarly e = omega (arith, e)
+not-19 NotShortest e = omega (arith, e)
+not-19 OutsideLimits e = omega (arith, e)
+not-19 BytesLeft e = omega (arith, e)
+
+-- THEOREM. With as many bytes as the damaged file has, 19 is never given
+pub never-longer : NeverLonger
+unfolding salvageOf
+never-longer damaged before after o bytes room w e = go (headerOf damaged) refl (sym (w .answers) ∙ e)
+  where
+    go : (h : Heading) → headerOf damaged ≡ h → salvageOf (headerOf damaged) damaged (length before) ≡ refused 19 → ⊥
+    go (Faulty why) q f = not-19 why (number-same (sym (ap (λ (h : Heading). salvageOf h damaged (length before)) q) ∙ f))
+    go (Whole shape at) q f = no-refusal (saved-answers damaged shape at q (length before) (omega (arith, no-longer damaged bytes shape at q))) f

@@ -1,0 +1,84 @@
+-- What document 02, E12, says of every salvage, in its words. Proved in proofs/Saving. Assumes nothing.
+use Prim.Native.Nat.{ℕ, _+_, _-_, _≤_}
+use mathlib.Core.Path.{_≡_}
+use mathlib.Core.Logic.{_⊎_}
+use mathlib.Core.List.{List, _∷_, _++_}
+use lib.ListN.{length, take, drop}
+use Rattle.replay.specs.Table.{Outcome, refused, answered}
+use Rattle.sitting_file.specs.Format.{headerOf, readOf}
+use Rattle.sitting_file.specs.Format as format
+use Rattle.sitting_file.specs.Input.{inputBytes}
+use Rattle.sitting_file.specs.Samples.{Below}
+use Rattle.sitting_file.specs.Verdict.{Bytes}
+use Rattle.sitting_file.specs.declared.Shape.{Shape}
+use Rattle.sitting_file.specs.declared.Refusal as file
+use Rattle.sitting_file.specs.declared.Refusal.the-variants.{BytesLeft}
+use Rattle.sitting_file.specs.declared.Heading.the-variants.{Whole}
+use Rattle.sitting_file.specs.declared.Reading.the-variants.{Accepted, Refused}
+use Rattle.writing.specs.RoundTrips.{ReadsAs}
+use Rattle.salvage.specs.Salvage.{firstBytes, secondBytes, Saved, salvageOf, Salvages}
+use Rattle.salvage.specs.declared.Lost.{Lost}
+
+-- ---- what is saved
+
+-- "Each sample's kept symbols are a beginning of its bytes", below A, and the byte behind them is not: no longer beginning is below A
+pub record Beginning (A : ℕ) (bytes kept : List ℕ) : Type 0 where
+  pub rest : List ℕ
+  pub split : bytes ≡ kept ++ rest
+  pub below : Below A kept
+  pub ends : (b : ℕ) (more : List ℕ) → rest ≡ b ∷ more → A ≤ b
+
+-- an accepted salvage that left `after`: the header, and the two kept samples
+pub record Saves (damaged : List ℕ) (s : Saved) (after : List ℕ) : Type 0 where
+  pub shape : Shape
+  pub place : ℕ
+  pub header : headerOf damaged ≡ Whole shape place
+  pub first : List ℕ
+  pub second : List ℕ
+  -- "The tool writes a valid file with the shorter lengths": the reader accepts it, with the same A and D
+  pub valid : ReadsAs (take (length (s .file)) after) (shape .alphabet) (shape .depth) first second
+  -- "a beginning of its bytes in the damaged file"
+  pub first-begins : Beginning (shape .alphabet) (firstBytes shape (drop place damaged)) first
+  pub second-begins : Beginning (shape .alphabet) (secondBytes shape (drop place damaged)) second
+  -- "and with the missing and the dropped they make n or m"
+  pub first-whole : length first + s .lost .first .missing + s .lost .first .dropped ≡ shape .first
+  pub second-whole : length second + s .lost .second .missing + s .lost .second .dropped ≡ shape .second
+  -- every byte behind the header is kept, dropped or cut off
+  pub every-byte : place + (length first + s .lost .first .dropped) + (length second + s .lost .second .dropped) + s .lost .cut ≡ length damaged
+
+abbrev pub EachSaves : Type 0
+EachSaves = (damaged before after : List ℕ) (s : Saved) → Salvages damaged before (answered s) after → Saves damaged s after
+
+-- ---- a sound file
+
+abbrev pub nothingLost : Lost
+nothingLost = record { first = record { missing = 0; dropped = 0 }; second = record { missing = 0; dropped = 0 }; cut = 0 }
+
+-- "A sound file comes out the same, with zeros.", wherever as many bytes are lent
+abbrev pub SoundSame : Type 0
+SoundSame = (file : List ℕ) (shape : Shape) → Bytes file → readOf file ≡ Accepted shape
+    → (before after : List ℕ) (o : Outcome Saved) → length file ≤ length before → Salvages file before o after
+    → (o ≡ answered (record { file = file; lost = nothingLost })) × (after ≡ file ++ drop (length file) before)
+
+-- ---- refusals
+
+-- "A header .. that cannot be read within limits is refused as the reader does": refused with the number that the reader gives the file, and never with 16; or with 19
+abbrev pub AsTheReader : Type 0
+AsTheReader = (damaged before after : List ℕ) (n : ℕ) → Salvages damaged before (refused n) after
+    → ((why : file.Refusal) × (readOf damaged ≡ Refused why) × (n ≡ format.refusalNumber why) × (why ≡ BytesLeft → ⊥)) ⊎ (n ≡ 19)
+
+-- as many bytes as the damaged file has are never too few
+abbrev pub NeverLonger : Type 0
+NeverLonger = (damaged before after : List ℕ) (o : Outcome Saved) → Bytes damaged → length damaged ≤ length before → Salvages damaged before o after → o ≡ refused 19 → ⊥
+
+-- ---- long input
+
+-- the same, with so many more bytes cut off
+abbrev pub cutMore : ℕ → Outcome Saved → Outcome Saved
+cutMore k (answered s) = answered (record { file = s .file; lost = record { first = s .lost .first; second = s .lost .second; cut = s .lost .cut + k } })
+cutMore k (refused n) = refused n
+
+-- a file and its first 2,048 bytes differ in what is cut off alone, and by as many bytes as follow
+abbrev pub FirstBytesSave : Type 0
+FirstBytesSave = (damaged : List ℕ) (room : ℕ) → inputBytes ≤ length damaged
+    → salvageOf (headerOf damaged) damaged room ≡ cutMore (length damaged - inputBytes) (salvageOf (headerOf (take inputBytes damaged)) (take inputBytes damaged) room)
