@@ -2,7 +2,6 @@
 ghost use mathlib.Core.Path.{_≡_};
 ghost use Prim.Native.Nat.{_+_, _-_, _≤_};
 ghost use lib.ListN.{length, take, drop};
-ghost use Rattle.numbers.specs.Limits.{longest};
 ghost use Rattle.sitting_file.specs.Format.{headerOf};
 ghost use Rattle.sitting_file.specs.declared.Heading.the-variants.{Whole};
 ghost use Rattle.salvage.specs.Salvage.{keptBytes, refusalNumber, toldBy, salvageOutcome, Within, Salvages};
@@ -14,8 +13,8 @@ use writing::write;
 
 // What is gone of a sample: how many of its bytes did not exist, and how many that did were dropped.
 pub struct Gone {
-    pub missing: u32,
-    pub dropped: u32,
+    pub missing: u64,
+    pub dropped: u64,
 }
 
 // What is lost of a damaged file: of each sample, and how many bytes after both were cut off.
@@ -120,12 +119,12 @@ fn kept(bytes: &[u8], alphabet: u32) -> &[u8]
 
 // What is gone of a sample of which so many bytes were wanted, were there and were kept.
 fn gone_of(wanted: usize, there: usize, kept: usize) -> Gone
-    requires { ⌜ (wanted ≤ longest) × (there ≤ wanted) × (kept ≤ there) ⌝ }
+    requires { ⌜ (there ≤ wanted) × (kept ≤ there) ⌝ }
     ensures { λ r. ⌜ (r .missing ≡ wanted - there) × (r .dropped ≡ there - kept) ⌝ }
 {
     Gone {
-        missing: (wanted - there) as u32,
-        dropped: (there - kept) as u32,
+        missing: (wanted - there) as u64,
+        dropped: (there - kept) as u64,
     }
 }
 

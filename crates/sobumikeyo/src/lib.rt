@@ -4,11 +4,12 @@ ghost use Rattle.replay.specs.Machine.{opening, closing, atDesk, asking};
 ghost use Rattle.replay.specs.Room.{naming};
 ghost use Rattle.rules.specs.Rules.{feed};
 ghost use Rattle.store.specs.Sound.{soundb};
-ghost use Rattle.told.specs.Told.{MakeTold, MoveTold, RunTold, RoomTold, ReportTold, ReadTold, WriteTold, ChartTold};
+ghost use Rattle.told.specs.Told.{MakeTold, MoveTold, RunTold, RoomTold, ReportTold, ReadTold, WriteTold, SalvageTold, ChartTold};
 use calls::ChartAnswer;
 use calls::ReportAnswer;
 use calls::RoomLeft;
 use chart::Chart;
+use salvage::Salvaged;
 use sitting_file::Reading;
 use told::code_of;
 use told::ending_code;
@@ -144,6 +145,33 @@ pub extern "C" fn sobumikeyo_write(
         Writing::Refused(why) => writing::refusal_number(why),
         Writing::Length(size) => {
             *written = size;
+            0
+        }
+    }
+}
+
+// Writes what can be saved of a damaged file at the start of the bytes lent, its length, and what was lost: missing and dropped of the first sample, of
+// the second, cut off.
+#[no_mangle]
+pub extern "C" fn sobumikeyo_salvage(
+    damaged: &[u8],
+    file: &mut [u8],
+    written: &mut usize,
+    told: &mut [u64; 5],
+) -> u32
+    ensures { λ r. ⌜ SalvageTold (now (damaged .entry)) (now (file .entry)) r (now (file .exit)) (now (written .entry)) (now (written .exit)) (now (told .entry)) (now (told .exit)) ⌝ }
+{
+    match salvage::salvage(damaged, file) {
+        Salvaged::Refused(why) => salvage::refusal_number(why),
+        Salvaged::File(size, lost) => {
+            *written = size;
+            *told = [
+                lost.first.missing,
+                lost.first.dropped,
+                lost.second.missing,
+                lost.second.dropped,
+                lost.cut,
+            ];
             0
         }
     }

@@ -5,3 +5,4 @@ pub mod Refused
 pub mod Settled
 pub mod StoresSettled
 pub mod RoundTrips
+pub mod Saving

@@ -21,9 +21,10 @@ use Rattle.sitting_file.specs.Format.{readOf}
 use Rattle.sitting_file.specs.declared.Reading.{Reading}
 use Rattle.sitting_file.specs.declared.Reading.the-variants as reading
 use Rattle.writing.specs.Writing.{WritesFile, writingOutcome}
+use Rattle.salvage.specs.Salvage.{Saved, Salvages}
 use Rattle.told.specs.Codes.{toldAs, readCode}
-use Rattle.told.specs.Outputs.{leftAfter, rowsAfter, scoreAfter, shapeAfter, lengthAfter, seenAfter, firstAfter, secondAfter, gapAfter}
-use Rattle.told.specs.Told.{MoveTold, RunTold, RoomTold, ReportTold, ReadTold, WriteTold, ChartTold}
+use Rattle.told.specs.Outputs.{leftAfter, rowsAfter, scoreAfter, shapeAfter, lengthAfter, sizeAfter, lossesAfter, seenAfter, firstAfter, secondAfter, gapAfter}
+use Rattle.told.specs.Told.{MoveTold, RunTold, RoomTold, ReportTold, ReadTold, WriteTold, SalvageTold, ChartTold}
 use Rattle.told.proofs.Numbers.{refused-by}
 
 -- ---- an opening, a feed or a closing
@@ -81,3 +82,15 @@ module _ {A D : ℕ} {xs ys before after : List ℕ} {old size : ℕ} where
       let o = writingOutcome (m .answer) in
       let e : o ≡ refused (suc n) = refused-by o n (m .number) in
       (subst (λ (q : Outcome ℕ). WritesFile A D xs ys before q after) e (m .promise), m .promise .refused-stays (suc n) e, m .output ∙ ap (λ (q : Outcome ℕ). lengthAfter q old) e)
+
+-- ---- a file that is not salvaged: the bytes, the length and the five numbers stay
+module _ {damaged before after : List ℕ} {old size : ℕ} {was losses : List ℕ} where
+  pub salvage-refused : {n : ℕ} → SalvageTold damaged before (suc n) after old size was losses → Salvages damaged before (refused (suc n)) after × (after ≡ before) × (size ≡ old) × (losses ≡ was)
+  salvage-refused {n} m =
+      let o = m .answer in
+      let e : o ≡ refused (suc n) = refused-by o n (m .number) in (
+        subst (λ (q : Outcome Saved). Salvages damaged before q after) e (m .promise),
+        m .promise .refused-stays (suc n) e,
+        m .output ∙ ap (λ (q : Outcome Saved). sizeAfter q old) e,
+        m .lost ∙ ap (λ (q : Outcome Saved). lossesAfter q was) e,
+      )

@@ -1,4 +1,4 @@
--- Whatever the promises for C allow has one number and one set of outputs: the questions, the reader and the writer. Assumes nothing.
+-- Whatever the promises for C allow has one number and one set of outputs: the questions, the reader, the writer and the salvage. Assumes nothing.
 use Prim.Native.Nat.{ℕ, _*_}
 use mathlib.Core.Path.{_≡_, refl, sym, ap, _∙_}
 use mathlib.Core.List.{List}
@@ -21,9 +21,11 @@ use Rattle.calls.specs.declared.ChartAnswer.{ChartAnswer}
 use Rattle.calls.specs.declared.ChartAnswer.the-variants as asked
 use Rattle.writing.specs.Writing.{writingOutcome}
 use Rattle.writing.proofs.Settled.{writing-settled}
+use Rattle.salvage.specs.Salvage.{Saved}
+use Rattle.salvage.proofs.Settled.{salvage-settled}
 use Rattle.told.specs.Codes.{toldAs}
-use Rattle.told.specs.Outputs.{leftAfter, rowsAfter, scoreAfter, lengthAfter, seenIn, firstIn, secondIn, gapIn, seenAfter, firstAfter, secondAfter, gapAfter}
-use Rattle.told.specs.Told.{RoomTold, ReportTold, ReadTold, WriteTold, ChartTold}
+use Rattle.told.specs.Outputs.{leftAfter, rowsAfter, scoreAfter, lengthAfter, sizeAfter, lossesAfter, seenIn, firstIn, secondIn, gapIn, seenAfter, firstAfter, secondAfter, gapAfter}
+use Rattle.told.specs.Told.{RoomTold, ReportTold, ReadTold, WriteTold, SalvageTold, ChartTold}
 
 -- ---- questions: an output is what the outcome has for it, or what stood there
 module _ {B : Type 0} where
@@ -119,6 +121,17 @@ pub write-one : {A D : ℕ} {xs ys before : List ℕ} {r q : ℕ} {x y : List �
 write-one {A} {D} {xs} {ys} {before} {r} {q} {x} {y} {old} m n =
     let e = writing-settled A D xs ys before (writingOutcome (m .answer)) (writingOutcome (n .answer)) x y (m .promise) (n .promise) in
     (m .number ∙ ap toldAs (e .0) ∙ sym (n .number), e .1, m .output ∙ ap (λ (o : Outcome ℕ). lengthAfter o old) (e .0) ∙ sym (n .output))
+
+-- the five numbers too
+pub salvage-one : {damaged before : List ℕ} {r q : ℕ} {x y : List ℕ} {old size size′ : ℕ} {was losses losses′ : List ℕ}
+    → SalvageTold damaged before r x old size was losses → SalvageTold damaged before q y old size′ was losses′ → (r ≡ q) × (x ≡ y) × (size ≡ size′) × (losses ≡ losses′)
+salvage-one {damaged} {before} {r} {q} {x} {y} {old} {size} {size′} {was} m n =
+    let e = salvage-settled damaged before (m .answer) (n .answer) x y (m .promise) (n .promise) in (
+      m .number ∙ ap toldAs (e .0) ∙ sym (n .number),
+      e .1,
+      m .output ∙ ap (λ (o : Outcome Saved). sizeAfter o old) (e .0) ∙ sym (n .output),
+      m .lost ∙ ap (λ (o : Outcome Saved). lossesAfter o was) (e .0) ∙ sym (n .lost),
+    )
 
 -- what a chart question leaves: its number, which samples saw the context, and the three outputs
 module _ {s : List ℕ} {d len code a r q old seen seen′ : ℕ} {u first first′ v second second′ w gap gap′ : Float} where

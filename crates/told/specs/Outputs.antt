@@ -2,6 +2,7 @@
 use Prim.Native.Nat.{ℕ}
 use mathlib.Core.List.{List, [], _∷_}
 use lib.IntN.{ℤ}
+use lib.ListN.{length}
 use lib.Ieee.{Float}
 use Rattle.replay.specs.Table.{Outcome, refused, answered}
 use Rattle.calls.specs.declared.RoomLeft.{RoomLeft}
@@ -10,6 +11,7 @@ use Rattle.calls.specs.declared.ReportAnswer.{ReportAnswer}
 use Rattle.calls.specs.declared.ReportAnswer.the-variants as written
 use Rattle.sitting_file.specs.declared.Reading.{Reading}
 use Rattle.sitting_file.specs.declared.Reading.the-variants as reading
+use Rattle.salvage.specs.Salvage.{Saved}
 use Rattle.chart.specs.declared.Chart.{Chart}
 use Rattle.chart.specs.declared.Chart.the-variants as chart
 use Rattle.calls.specs.declared.ChartAnswer.{ChartAnswer}
@@ -38,6 +40,16 @@ shapeAfter (reading.Refused why) old = old
 abbrev pub lengthAfter : Outcome ℕ → ℕ → ℕ
 lengthAfter (answered n) old = n
 lengthAfter (refused why) old = old
+
+-- the length of a file that was saved
+abbrev pub sizeAfter : Outcome Saved → ℕ → ℕ
+sizeAfter (answered s) old = length (s .file)
+sizeAfter (refused why) old = old
+
+-- what was lost: missing and dropped of the first sample, of the second, cut off
+abbrev pub lossesAfter : Outcome Saved → List ℕ → List ℕ
+lossesAfter (answered s) old = s .lost .first .missing ∷ s .lost .first .dropped ∷ s .lost .second .missing ∷ s .lost .second .dropped ∷ s .lost .cut ∷ []
+lossesAfter (refused why) old = old
 
 -- which samples saw the context: 0 neither, 1 the first, 2 the second, 3 both
 abbrev pub seenIn : Chart → ℕ

@@ -5,6 +5,7 @@ use mathlib.Core.Path.{_≡_}
 use mathlib.Core.List.{List}
 use lib.IntN.{ℤ}
 use lib.Ieee.{Float}
+use Rattle.replay.specs.Table.{Outcome}
 use Rattle.replay.specs.Machine.{Call, atDesk, asking, roomQuestion}
 use Rattle.rules.specs.Rules.{rules, charting}
 use Rattle.store.specs.Making.{Makes, refusalOf}
@@ -20,8 +21,9 @@ use Rattle.calls.specs.declared.ChartAnswer.{ChartAnswer}
 use Rattle.sitting_file.specs.Format.{readOf}
 use Rattle.writing.specs.Writing.{WritesFile, writingOutcome}
 use Rattle.writing.specs.declared.Writing.{Writing}
+use Rattle.salvage.specs.Salvage.{Saved, Salvages}
 use Rattle.told.specs.Codes.{toldAs, readCode}
-use Rattle.told.specs.Outputs.{leftAfter, rowsAfter, scoreAfter, shapeAfter, lengthAfter, seenAfter, firstAfter, secondAfter, gapAfter}
+use Rattle.told.specs.Outputs.{leftAfter, rowsAfter, scoreAfter, shapeAfter, lengthAfter, sizeAfter, lossesAfter, seenAfter, firstAfter, secondAfter, gapAfter}
 
 -- a making of room K with the numbers `before`
 pub record MakeTold (K : ℕ) (before : List ℕ) (r : ℕ) (after : List ℕ) : Type 0 where
@@ -67,6 +69,14 @@ pub record WriteTold (A D : ℕ) (xs ys before : List ℕ) (r : ℕ) (after : Li
   pub promise : WritesFile A D xs ys before (writingOutcome answer) after
   pub number : r ≡ toldAs (writingOutcome answer)
   pub output : size′ ≡ lengthAfter (writingOutcome answer) size
+
+-- a damaged file salvaged into the bytes `before`; `size` and `losses` stood where the saved file's length and the five numbers are put
+pub record SalvageTold (damaged before : List ℕ) (r : ℕ) (after : List ℕ) (size size′ : ℕ) (losses losses′ : List ℕ) : Type 0 where
+  pub answer : Outcome Saved
+  pub promise : Salvages damaged before answer after
+  pub number : r ≡ toldAs answer
+  pub output : size′ ≡ sizeAfter answer size
+  pub lost : losses′ ≡ lossesAfter answer losses
 
 -- a chart question
 pub record ChartTold (store : List ℕ) (d len code a r seen seen′ : ℕ) (first first′ second second′ gap gap′ : Float) : Type 0 where

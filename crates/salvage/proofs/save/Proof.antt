@@ -77,13 +77,13 @@ kept-requires-2 c κs = search needs
 gone-of-requires : tie.Need-gone-of-requires
 gone-of-requires c κs =
     let s = at-start c in
-    (read s .limits .first-high, omega (arith, ap length (first c), length-take (shape s .first) (body s)), omega (arith, ap length (first c), ap length (first-kept c), kept-fits (shape s .alphabet) (firstBytes (shape s) (body s))))
+    (omega (arith, ap length (first c), length-take (shape s .first) (body s)), omega (arith, ap length (first c), ap length (first-kept c), kept-fits (shape s .alphabet) (firstBytes (shape s) (body s))))
 
 gone-of-requires-2 : tie.Need-gone-of-requires-2
 gone-of-requires-2 c κs =
     let k = c .before in
     let s = at-start k in
-    (read s .limits .second-high, omega (arith, ap length (second k), length-take (shape s .second) (drop (shape s .first) (body s))), omega (arith, ap length (second k), ap length (second-kept k), kept-fits (shape s .alphabet) (secondBytes (shape s) (body s))))
+    (omega (arith, ap length (second k), length-take (shape s .second) (drop (shape s .first) (body s))), omega (arith, ap length (second k), ap length (second-kept k), kept-fits (shape s .alphabet) (secondBytes (shape s) (body s))))
 
 add-past : tie.Need-add-past
 add-past c = record { fits = omega (arith, end-small (at-start (c .before .before))) }
