@@ -1,15 +1,18 @@
 -- Demand 1: every call is refused exactly by its table, and a refused call changes nothing. Assumes nothing.
 use Prim.Native.Nat.{ℕ}
-use mathlib.Core.Path.{_≡_, refl, ap, _∙_}
+use mathlib.Core.Path.{_≡_, refl, sym, ap, subst, _∙_}
 use mathlib.Core.Bool.{Bool, true, false, cond, not}
 use mathlib.Core.List.{List}
 use lib.ListN.{length}
 use Rattle.numbers.proofs.Tests.{of-true}
 use Rattle.replay.specs.Table.{Outcome, refused, answered, verdictOf, inOrder}
 use Rattle.replay.specs.Machine.{opening, asking, closing, Call, atDesk, roomQuestion, tableOf, answerOf, verdict}
-use Rattle.replay.proofs.Tables.{no-refusal, refused-exactly, answered-exactly}
+use Rattle.replay.proofs.Tables.{no-refusal, none-answers, answers-none, refused-exactly, answered-exactly}
 use Rattle.replay.proofs.Refusals.{tables-rise}
 use Rattle.writing.specs.Writing.{fileOf, writingLines, WritesFile}
+use Rattle.salvage.specs.Salvage.{Saved, salvageLines, Salvages}
+use Rattle.salvage.proofs.Refusing.{by-lines, as-the-reader}
+use Rattle.sitting_file.specs.Format.{headerOf}
 use Rattle.store.specs.Making.{roomOutside, storeShort, madeOf, Makes}
 use Rattle.store.specs.declared.Made.{Made}
 use Rattle.store.specs.declared.Made.the-variants.{Done, RoomOutside, StoreShort}
@@ -18,7 +21,7 @@ use Rattle.store.specs.Meaning.{meaning}
 use Rattle.rules.specs.Rules.{Answer, done, feed, reporting, charting, rules}
 use Rattle.rules.proofs.Numbers.{lines-rise}
 use Rattle.demands.specs.Runs.{Does}
-use Rattle.demands.specs.Demands.{tableOn, Demand1, Demand1Sheet, makingTable, makingOf, Demand1Making, Demand1Writing}
+use Rattle.demands.specs.Demands.{tableOn, Demand1, Demand1Sheet, makingTable, makingOf, Demand1Making, Demand1Writing, Demand1Salvage}
 use Rattle.demands.proofs.Contracts.{answers}
 
 -- refused 1 where the numbers do not pass the test
@@ -88,5 +91,17 @@ demand-1-writing A D xs ys before after o w =
       refused-exactly = λ n. rw (w .answers) (refused-exactly lines (length (fileOf A D xs ys)) n);
       written-exactly = rw (w .answers) (answered-exactly lines (length (fileOf A D xs ys)));
       numbers-rise = tt;
+      refused-stays = w .refused-stays;
+    }
+
+pub demand-1-salvage : (damaged before after : List ℕ) (o : Outcome Saved) → Salvages damaged before o after → Demand1Salvage damaged before o after
+demand-1-salvage damaged before after o w =
+    let lines = salvageLines (headerOf damaged) damaged (length before) in
+    let t = by-lines (headerOf damaged) damaged (length before) in
+    let e : o ≡ verdictOf lines (t .0) = w .answers ∙ t .1 in
+    record {
+      refused-exactly = λ n. rw e (refused-exactly lines (t .0) n);
+      saved-exactly = (λ a. answers-none lines (t .0) (a .0) (sym e ∙ a .1) .0, λ h. (t .0, e ∙ none-answers lines (t .0) h));
+      as-the-reader = λ n r. as-the-reader damaged before after n (subst (λ (p : Outcome Saved). Salvages damaged before p after) r w);
       refused-stays = w .refused-stays;
     }

@@ -20,6 +20,8 @@ use Rattle.replay.specs.Machine.{opening, asking, Call, atDesk, tableOf, answer
 use Rattle.replay.specs.Serial.{Told, Course, calls, answers, struck, sittings, serial, callsAt, openings}
 use Rattle.replay.specs.Alone.{latest, asks}
 use Rattle.writing.specs.Writing.{fileOf, writingLines}
+use Rattle.salvage.specs.Salvage.{Saved, salvageLines}
+use Rattle.salvage.specs.Saving.{ReadersOr19}
 use Rattle.store.specs.Making.{roomOutside, storeShort}
 use Rattle.store.specs.declared.Made.{Made}
 use Rattle.store.specs.declared.Made.the-variants.{Done, RoomOutside, StoreShort}
@@ -29,6 +31,7 @@ use Rattle.rules.specs.Feed.{countedFrom}
 use Rattle.rules.specs.Report.{Reported}
 use Rattle.rules.specs.Rules.{Answer, done, reporting, reported, rules}
 use Rattle.rules.specs.Strings.{stringsOf, sittingFor}
+use Rattle.sitting_file.specs.Format.{headerOf}
 use Rattle.sitting_file.specs.Samples.{Below}
 use Rattle.demands.specs.Runs.{OnSheet, Does, MadeNew, Run}
 
@@ -70,6 +73,14 @@ pub record Demand1Writing (A D : ℕ) (xs ys before : List ℕ) (o : Outcome ℕ
   pub refused-exactly : (n : ℕ) → (o ≡ refused n) ↔ First (writingLines A D xs ys (length before)) n
   pub written-exactly : (o ≡ answered (length (fileOf A D xs ys))) ↔ NoneApplies (writingLines A D xs ys (length before))
   pub numbers-rise : T (inOrder 1 (writingLines A D xs ys (length before)))
+  pub refused-stays : (n : ℕ) → o ≡ refused n → after ≡ before
+
+-- a salvage of the bytes `damaged` (document 02, E12) into the bytes `before`, which answers o and leaves `after`
+pub record Demand1Salvage (damaged before : List ℕ) (o : Outcome Saved) (after : List ℕ) : Type 0 where
+  pub refused-exactly : (n : ℕ) → (o ≡ refused n) ↔ First (salvageLines (headerOf damaged) damaged (length before)) n
+  pub saved-exactly : ((s : Saved) × (o ≡ answered s)) ↔ NoneApplies (salvageLines (headerOf damaged) damaged (length before))
+  -- a faulty header has the reader's number, never 16
+  pub as-the-reader : (n : ℕ) → o ≡ refused n → ReadersOr19 damaged n
   pub refused-stays : (n : ℕ) → o ≡ refused n → after ≡ before
 
 -- ---- DEMAND 2: "A report is the joint context tree estimate .."

@@ -3,14 +3,14 @@ use Prim.Native.Nat.{ℕ, _+_, _≤_, _<_}
 use native.Mathlib.Decide.{decLt}
 use native.Mathlib.Omega.{arith}
 use mathlib.Core.Path.{_≡_, refl, sym, ap, _∙_}
-use mathlib.Core.Logic.{_⊎_, inl, inr}
+use mathlib.Core.Logic.{inl, inr}
 use mathlib.Core.Bool.{Bool, true, false, cond}
 use mathlib.Core.List.{List, []}
 use lib.Dec.{ltb}
 use lib.ListN.{length, drop, length-append, length-take, length-drop}
 use Rattle.replay.specs.Table.{Outcome, refused, answered, verdictOf}
 use Rattle.replay.proofs.Tables.{no-refusal, number-same}
-use Rattle.sitting_file.specs.Format.{highBit, headerOf, bodyOf, readOf}
+use Rattle.sitting_file.specs.Format.{highBit, headerOf, bodyOf}
 use Rattle.sitting_file.specs.Format as format
 use Rattle.sitting_file.specs.Verdict.{Bytes, shortest, written, withHeader}
 use Rattle.sitting_file.specs.declared.Shape.{Shape}
@@ -18,14 +18,21 @@ use Rattle.sitting_file.specs.declared.Refusal.{Refusal}
 use Rattle.sitting_file.specs.declared.Refusal.the-variants.{EndsEarly, NotShortest, OutsideLimits, BytesLeft}
 use Rattle.sitting_file.specs.declared.Heading.{Heading}
 use Rattle.sitting_file.specs.declared.Heading.the-variants.{Whole, Faulty}
-use Rattle.sitting_file.specs.declared.Reading.the-variants.{Refused}
 use Rattle.sitting_file.proofs.AnswerTrue.{header-place}
 use Rattle.sitting_file.proofs.Stages.{header-fault, header-read}
 use Rattle.writing.proofs.Sizes.{one-long, two-long, at-most-two, file-long}
-use Rattle.salvage.specs.Salvage.{firstBytes, secondBytes, firstKept, secondKept, Saved, savedOf, salvageOf, Salvages}
-use Rattle.salvage.specs.Saving.{AsTheReader, NeverLonger}
+use Rattle.salvage.specs.Salvage.{firstBytes, secondBytes, firstKept, secondKept, Saved, savedOf, salvageLines, salvageOf, Salvages}
+use Rattle.salvage.specs.Saving.{nothingLost, ReadersOr19, AsTheReader, NeverLonger}
 use Rattle.salvage.proofs.Keeping.{kept-fits}
 use Rattle.salvage.proofs.Answers.{kept-good, saved-answers}
+
+-- ---- the table
+
+-- what a salvage answers is what its lines say, of what there is to answer
+pub by-lines : (h : Heading) (damaged : List ℕ) (room : ℕ) → (s : Saved) × (salvageOf h damaged room ≡ verdictOf (salvageLines h damaged room) s)
+unfolding salvageOf verdictOf
+by-lines (Faulty why) damaged room = (record { file = []; lost = nothingLost }, refl)
+by-lines (Whole shape at) damaged room = (savedOf shape (drop at damaged), refl)
 
 -- THEOREM. "refused as the reader does", never with 16; or with 19
 pub as-the-reader : AsTheReader
@@ -36,8 +43,7 @@ as-the-reader damaged before after n w = go (headerOf damaged) refl (w .answers)
     short true s e = number-same e
     short false s e = no-refusal refl (sym e)
 
-    go : (h : Heading) → headerOf damaged ≡ h → refused n ≡ salvageOf h damaged (length before)
-        → ((why : Refusal) × (readOf damaged ≡ Refused why) × (n ≡ format.refusalNumber why) × (why ≡ BytesLeft → ⊥)) ⊎ (n ≡ 19)
+    go : (h : Heading) → headerOf damaged ≡ h → refused n ≡ salvageOf h damaged (length before) → ReadersOr19 damaged n
     go (Faulty why) q e = inl (why, ap (bodyOf damaged) q, number-same e, header-fault damaged why q)
     go (Whole shape at) q e = inr (short (ltb (length before) (length (savedOf shape (drop at damaged) .file))) (savedOf shape (drop at damaged)) e)
 

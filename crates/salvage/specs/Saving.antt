@@ -62,10 +62,13 @@ SoundSame = (file : List ℕ) (shape : Shape) → Bytes file → readOf file ≡
 
 -- ---- refusals
 
--- "A header .. that cannot be read within limits is refused as the reader does": refused with the number that the reader gives the file, and never with 16; or with 19
+-- the number that the reader gives the file, which is not 16; or 19
+abbrev pub ReadersOr19 : List ℕ → ℕ → Type 0
+ReadersOr19 damaged n = ((why : file.Refusal) × (readOf damaged ≡ Refused why) × (n ≡ format.refusalNumber why) × (why ≡ BytesLeft → ⊥)) ⊎ (n ≡ 19)
+
+-- "A header of four numbers that cannot be read within limits is refused as the reader does"
 abbrev pub AsTheReader : Type 0
-AsTheReader = (damaged before after : List ℕ) (n : ℕ) → Salvages damaged before (refused n) after
-    → ((why : file.Refusal) × (readOf damaged ≡ Refused why) × (n ≡ format.refusalNumber why) × (why ≡ BytesLeft → ⊥)) ⊎ (n ≡ 19)
+AsTheReader = (damaged before after : List ℕ) (n : ℕ) → Salvages damaged before (refused n) after → ReadersOr19 damaged n
 
 -- as many bytes as the damaged file has are never too few
 abbrev pub NeverLonger : Type 0
