@@ -7,14 +7,15 @@ use mathlib.Core.List.{List}
 use lib.ListN.{length, take}
 use lib.Seq.{take-all}
 use Rattle.sitting_file.specs.Format.{readOf}
-use Rattle.sitting_file.specs.Input.{inputBytes}
+use Rattle.sitting_file.specs.Input.{inputBytes, ReadInto}
 use Rattle.sitting_file.specs.declared.Reading.{Reading}
+use Rattle.sitting_file.proofs.InputRead.{first-read, bytes-judged}
 use Rattle.sitting_file.proofs.LongInput.{input-judged}
 use Rattle.replay.specs.Table.{Outcome}
 use Rattle.printing.specs.Putting.{Printed}
 use Rattle.judgement.specs.Judgement.{sheetNumbers, FileReport, judged, judgement}
 use Rattle.judgement.specs.Answers.{answerFor, sheetLeft, StoreAfter, Answers}
-use Rattle.judgement.specs.Prints.{textOf, Prints, ReadInto, PrintsInput}
+use Rattle.judgement.specs.Prints.{textOf, Prints, PrintsInput}
 use Rattle.judgement.specs.declared.SittingAnswer.{SittingAnswer}
 
 -- THEOREM. "Longer input is judged on its first 2,048 bytes": the judgement is the whole input's
@@ -53,25 +54,11 @@ module _ (input store store′ : List ℕ) where
         answers = subst (λ (o : Outcome FileReport). Answers input store sheet (answerFor o) store′ sheet′) e (answers-read (p .answers));
       }
 
--- what was read into a buffer of 2,048 bytes are the input's first 2,048
-first-read : (stdin buffer : List ℕ) (many : ℕ) → length buffer ≡ inputBytes → ReadInto stdin buffer many → take many buffer ≡ take inputBytes stdin
-first-read stdin buffer many long r = r .bytes ∙ elim (decLe (length stdin) inputBytes) [
-  | yes h ↦ take-all many stdin (omega (arith, r .count)) ∙ sym (take-all inputBytes stdin h)
-  | no h ↦ (let e : many ≡ inputBytes = omega (arith, r .count) in ap (λ (n : ℕ). take n stdin) e)
-]
-
--- as many of the buffer's bytes as were read, and no more than it has
-cut : (buffer : List ℕ) (many end : ℕ) → length buffer ≡ inputBytes → end ≡ min many inputBytes → take end buffer ≡ take many buffer
-cut buffer many end long e = elim (decLe many inputBytes) [
-  | yes h ↦ (let q : end ≡ many = omega arith in ap (λ (n : ℕ). take n buffer) q)
-  | no h ↦ take-all end buffer (omega arith) ∙ sym (take-all many buffer (omega arith))
-]
-
 -- THEOREM. What is printed of the bytes read into such a buffer is what the whole input asks for
 pub input-prints : (buffer : List ℕ) (many end : ℕ) (store sheet bytes : List ℕ) (r : ℕ) (store′ sheet′ bytes′ : List ℕ) → length buffer ≡ inputBytes → end ≡ min many inputBytes
     → Prints (take end buffer) store sheet bytes r store′ sheet′ bytes′ → PrintsInput buffer many store sheet bytes r store′ sheet′ bytes′
 input-prints buffer many end store sheet bytes r store′ sheet′ bytes′ long e q =
-    let p : Prints (take many buffer) store sheet bytes r store′ sheet′ bytes′ = subst (λ (l : List ℕ). Prints l store sheet bytes r store′ sheet′ bytes′) (cut buffer many end long e) q in
+    let p : Prints (take many buffer) store sheet bytes r store′ sheet′ bytes′ = subst (λ (l : List ℕ). Prints l store sheet bytes r store′ sheet′ bytes′) (bytes-judged buffer many end long e) q in
     record {
       long = long;
       first-bytes = p;

@@ -1,5 +1,5 @@
 -- What the program prints (document 01, "Sitting file and program"), from the file alone. Assumes nothing.
-use Prim.Native.Nat.{ℕ, min}
+use Prim.Native.Nat.{ℕ}
 use mathlib.Core.Path.{_≡_}
 use mathlib.Core.List.{List, [], _∷_, _++_}
 use lib.ListN.{length, take}
@@ -7,7 +7,7 @@ use Rattle.rows.specs.Rows.{Row, numbersOf}
 use Rattle.replay.specs.Table.{Outcome, refused, answered}
 use Rattle.printing.specs.Text.{headText, rowText, reportText, refusalText}
 use Rattle.printing.specs.Putting.{Printable, Printed}
-use Rattle.sitting_file.specs.Input.{inputBytes}
+use Rattle.sitting_file.specs.Input.{inputBytes, ReadInto}
 use Rattle.judgement.specs.Judgement.{sheetNumbers, FileReport, judgement}
 use Rattle.judgement.specs.Answers.{answerFor, Answers}
 use Rattle.judgement.specs.declared.SittingAnswer.{SittingAnswer}
@@ -30,11 +30,6 @@ pub record Prints (file store sheet bytes : List ℕ) (r : ℕ) (store′ sheet�
   pub answers : Answers file store sheet (answerFor (judgement file sheetNumbers)) store′ sheet′
 
 -- ---- standard input
-
--- what reading it into a buffer leaves: as many of its first bytes as there are, or as the buffer has
-pub record ReadInto (stdin buffer : List ℕ) (many : ℕ) : Type 0 where
-  pub count : many ≡ min (length stdin) (length buffer)
-  pub bytes : take many buffer ≡ take many stdin
 
 -- "The program reads standard input into 2,048 bytes": a buffer that `many` bytes were read into, and what is printed then
 pub record PrintsInput (buffer : List ℕ) (many : ℕ) (store sheet bytes : List ℕ) (r : ℕ) (store′ sheet′ bytes′ : List ℕ) : Type 0 where

@@ -4,7 +4,7 @@ use native.Mathlib.Omega.{arith}
 use native.Mathlib.Nat.{pow-suc, suc-mul, lt-of-lt-of-le, lt-of-le-of-lt}
 use native.Mathlib.Decide.{decLe}
 use mathlib.Core.Path.{ap, _∙_}
-use mathlib.Core.List.{List, [], _∷_, map}
+use mathlib.Core.List.{List, [], _∷_, _++_, map}
 use lib.Dec.{lit≤, lit<}
 use lib.IntN.{ℤ, pos, negsuc}
 use lib.ListN.{length, getD, take, drop, length-append, length-map, length-take}
@@ -67,11 +67,20 @@ short : (l : List ℕ) → Small l → Short 10 (map pos l)
 short [] h = tt
 short (x ∷ l) h = (number-long x (h 0), short l (λ i. h (suc i)))
 
--- ---- refusals, rows and reports
+-- ---- refusals, lines, rows and reports
 
 pub refusal-fits : (n : ℕ) → n < 2 ^ 32 → length (refusalText n) ≤ textBytes
 unfolding ascii
 refusal-fits n h = omega (arith, line-long 10 (pos n ∷ []) (number-long n h, tt))
+
+-- a last number of 64 bits with a sign after them
+wider : (l : List ℕ) (z : ℤ) → Small l → SFits w64 z → Short 20 (map pos l ++ (z ∷ []))
+wider [] z h f = (signed-long z f, tt)
+wider (x ∷ l) z h f = (omega (arith, number-long x (h 0)), wider l z (λ i. h (suc i)) f)
+
+-- at most twelve numbers
+pub line-fits : (l : List ℕ) (z : ℤ) → length l ≤ rowWidth → Small l → SFits w64 z → length (lineOf (map pos l ++ (z ∷ []))) ≤ textBytes
+line-fits l z h s f = omega (arith, line-long 20 (map pos l ++ (z ∷ [])) (wider l z s f), length-append (map pos l) (z ∷ []), length-map l pos)
 
 module _ (A rows : ℕ) (sheet : List ℕ) (known : Printable A rows sheet) (small : Small sheet) where
   -- at most eleven numbers of ten digits, each with the byte after it, and one byte over (the bound also covers an empty line)

@@ -6,6 +6,7 @@ ghost use lib.IntN.{pos, natAbs};
 ghost use lib.ListN.{length};
 ghost use Rattle.printing.specs.Text.{decimal, lineOf, headText, rowText, rowsText, reportText, refusalText};
 ghost use Rattle.printing.specs.Text.{digit as Text·digit, signed as Text·signed};
+ghost use Rattle.numbers.specs.Limits.{rowWidth};
 ghost use Rattle.placing.specs.Placing.{HasRoom, Puts};
 ghost use Rattle.printing.specs.Putting.{Printable, Printed};
 use numbers::ROW_WIDTH;
@@ -52,6 +53,14 @@ pub fn put_refusal(buffer: &mut [u8; TEXT_BYTES], number: u32) -> usize
 {
     let at = put_bytes(buffer, 0, b"refused ");
     put_line(buffer, at, &[], number as i64)
+}
+
+// Puts a line of some numbers and a last one at the start of the buffer, and answers how many bytes it has.
+pub fn put_numbers(buffer: &mut [u8; TEXT_BYTES], numbers: &[u32], last: i64) -> usize
+    requires { ⌜ length (now numbers) ≤ rowWidth ⌝ }
+    ensures { λ r. ⌜ Printed (lineOf (map pos (now (numbers .entry)) ++ (last ∷ []))) (now (buffer .entry)) (now (buffer .exit)) r ⌝ }
+{
+    put_line(buffer, 0, numbers, last)
 }
 
 fn put_head(buffer: &mut [u8], head: Head) -> usize

@@ -77,8 +77,11 @@ NeverLonger = (damaged before after : List ℕ) (o : Outcome Saved) → Bytes da
 -- ---- long input
 
 -- the same, with so many more bytes cut off
+abbrev pub lostMore : ℕ → Lost → Lost
+lostMore k lost = record { first = lost .first; second = lost .second; cut = lost .cut + k }
+
 abbrev pub cutMore : ℕ → Outcome Saved → Outcome Saved
-cutMore k (answered s) = answered (record { file = s .file; lost = record { first = s .lost .first; second = s .lost .second; cut = s .lost .cut + k } })
+cutMore k (answered s) = answered (record { file = s .file; lost = lostMore k (s .lost) })
 cutMore k (refused n) = refused n
 
 -- a file and its first 2,048 bytes differ in what is cut off alone, and by as many bytes as follow

@@ -8,5 +8,6 @@ pub mod AnswerOnly
 pub mod Answers
 pub mod AcceptedFile
 pub mod Rewritten
+pub mod InputRead
 pub mod LongInput
 pub mod Examples
