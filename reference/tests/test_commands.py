@@ -8,7 +8,7 @@ import unittest
 from pathlib import Path
 
 REPOSITORY = Path(__file__).resolve().parents[2]
-MODULES = ("cases", "compare", "program", "script")
+MODULES = ("cases", "compare", "program", "salvage", "script")
 SCRIPTS = [".ci/run", "bench/before", "bench/constants", "bench/crates", "bench/programs", "bench/run"]
 SCRIPTS += ["bindings/readme", "bindings/test", "samples/make"]
 SCRIPTS += ["bindings/python/build", "bindings/python/play.py", "bindings/python/sitting.py", "tools/picture"]
@@ -87,7 +87,8 @@ class Commands(unittest.TestCase):
     def test_unknown_options(self):
         for name in NAMES:
             self.fails("--help says more", name, "--unknown")
-        for name in ("bindings/test", "python3 -m reference.cases", "python3 -m reference.program"):
+        modules = [f"python3 -m reference.{module}" for module in ("cases", "program", "salvage")]
+        for name in ("bindings/test", *modules):
             self.fails("--help says more", name, "word")
 
     def test_files_that_cannot_be_used(self):
@@ -119,6 +120,7 @@ class Commands(unittest.TestCase):
             ("bench/crates", b""),
             ("tools/picture", EXAMPLE),
             ("python3 -m reference.program", EXAMPLE),
+            ("python3 -m reference.salvage", EXAMPLE),
             ("python3 -m reference.script", b"4"),
         ]:
             reading, writing = os.pipe()
