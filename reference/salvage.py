@@ -58,6 +58,19 @@ def output(damaged, following=0):
     return bytes(buffer[: answer.length]), " ".join(map(str, lost)) + "\n"
 
 
+def losses_kind(lost):
+    """What was lost, for tallies."""
+    first_missing, first_dropped, second_missing, second_dropped, cut_off = lost
+    losses = {"missing": first_missing + second_missing, "dropped": first_dropped + second_dropped, "cut off": cut_off}
+    return " and ".join(name for name, count in losses.items() if count) or "nothing lost"
+
+
+def shown(damaged):
+    """A file as a text; of a long one, those bytes that decide the saved file and how many follow."""
+    following = len(damaged) - INPUT_BYTES
+    return damaged[:INPUT_BYTES].hex(" ") + (f" and {following} bytes more" if following > 0 else "")
+
+
 def bytes_following():
     """How many bytes are still to come at standard input."""
     return sum(map(len, iter(partial(standard_input, PIECE), b"")))
