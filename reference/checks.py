@@ -219,27 +219,36 @@ def check_salvage(random, tally):
 
 
 def check_saved(random, tally):
-    """The saved file is read with the same A and D. Each sample's symbols are the longest good beginning of its bytes,
-    and with the missing and the dropped they make n or m; header, kept, dropped and cut off make the damaged file."""
+    """What is kept, and what is said to be lost, of a file with a whole header."""
     damaged = file_to_salvage(random)
-    asked = shown(damaged)
     header = header_by_forms(damaged)
     if header is None:
         tally["salvage: saved files", "header refused"] += 1
         return
-    (A, D, n, m), rest = header
     saved, lost = saved_of(damaged)
+    demand_beginnings(shown(damaged), *header, saved)
+    demand_sums(shown(damaged), *header, read(saved), lost)
+    tally["salvage: saved files", losses_kind(lost)] += 1
+
+
+def demand_beginnings(asked, header, rest, saved):
+    """The saved file is read with the same A and D, and has the longest good beginning of each sample's bytes."""
+    A, D, n, m = header
     shape = read(saved)
     demand_equal("saved file", asked, damaged=(A, D), read=shape[:2])
     kept = tuple(tuple(longest_good(sample, A)) for sample in (rest[:n], rest[n : n + m]))
     demand_equal("symbols kept", asked, longest=kept, read=samples_of(saved, shape))
+
+
+def demand_sums(asked, header, rest, shape, lost):
+    """Kept, missing and dropped make n or m; kept, dropped and cut off make the bytes after the header."""
+    n, m = header.n, header.m
     missing = [sum(place >= len(rest) for place in places) for places in (range(n), range(n, n + m))]
     demand_equal("bytes that did not exist", asked, by_place=missing, told=[lost.first_missing, lost.second_missing])
     first, second = shape.n + sum(lost[:2]), shape.m + sum(lost[2:4])
     demand_equal("kept, missing and dropped", asked, header=(n, m), added=(first, second))
     existing = shape.n + shape.m + lost.first_dropped + lost.second_dropped + lost.cut_off
     demand_equal("kept, dropped and cut off", asked, bytes=len(rest), added=existing)
-    tally["salvage: saved files", losses_kind(lost)] += 1
 
 
 def check_sound(random, tally):

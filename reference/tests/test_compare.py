@@ -24,6 +24,7 @@ from reference.sitting_file import number_bytes, read, write, write_into
 from reference.walks import drawn_walk
 
 CORRECT = f"exec {sys.executable} -m reference."
+README = Path(__file__).resolve().parents[1] / "README.md"
 
 
 def run_compare(**built):
@@ -181,6 +182,7 @@ class Salvages(unittest.TestCase):
         tally = Counter()
         Salvage(salvage.output).compare_fixed(tally)
         self.assertEqual(sum(tally.values()), len(fixed_damages()))
+        self.assertIn(f"\n{len(fixed_damages()):,} fixed inputs", README.read_text("utf-8"))
         for seed in range(100):
             Salvage(salvage.output).compare_drawn(Random(seed), tally)
         kinds = {kind for _, kind in tally}

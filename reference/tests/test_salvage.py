@@ -205,6 +205,11 @@ class Program(unittest.TestCase):
             self.assertEqual(run_program(damaged), (file, f"0 0 0 0 {length - len(file)}\n", 0))
             self.assertEqual(output(damaged), (file, f"0 0 0 0 {length - len(file)}\n"))
 
+    def test_the_longest_file(self):
+        longest = write(8, 6, (7,) * SAMPLE_LIMIT, (0,) * SAMPLE_LIMIT)
+        self.assertEqual(run_program(longest), (longest, "0 0 0 0 0\n", 0))
+        self.assertEqual(run_program(longest + bytes(70000)), (longest, "0 0 0 0 70000\n", 0))
+
     def test_the_names_stand_in_that_order(self):
         order = ("first_missing", "first_dropped", "second_missing", "second_dropped", "cut_off")
         self.assertEqual(Lost._fields, order)
