@@ -48,8 +48,8 @@ def losses(sample, length, A):
 
 
 def output(damaged, following=0):
-    """What the program writes: the saved file, and the line that says what was lost or refused. Where `following` more
-    bytes come after these, which are then as many as the longest file has or more, they are cut off too."""
+    """What the program writes: the saved file, and the line that says what was lost or refused. No bytes past the first
+    2,048 need be given; `following` is how many were left out, and all of these are cut off."""
     buffer = bytearray(INPUT_BYTES)
     answer = salvage(damaged, buffer)
     if isinstance(answer, Refused):
@@ -61,8 +61,8 @@ def output(damaged, following=0):
 def losses_kind(lost):
     """What was lost, for tallies."""
     first_missing, first_dropped, second_missing, second_dropped, cut_off = lost
-    losses = {"missing": first_missing + second_missing, "dropped": first_dropped + second_dropped, "cut off": cut_off}
-    return " and ".join(name for name, count in losses.items() if count) or "nothing lost"
+    counts = {"missing": first_missing + second_missing, "dropped": first_dropped + second_dropped, "cut off": cut_off}
+    return " and ".join(name for name, count in counts.items() if count) or "nothing lost"
 
 
 def shown(damaged):

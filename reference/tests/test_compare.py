@@ -71,7 +71,6 @@ class Built(unittest.TestCase):
         self.assertEqual(status, 0, printed)
         self.assertIn("scripts: runs", printed)
 
-
     def test_a_salvage_that_saves_all_and_says_nothing(self):
         status, printed = run_compare(salvage="cat")
         self.assertEqual(status, 1)
