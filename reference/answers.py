@@ -1,4 +1,4 @@
-"""What store calls, the reader and the writer answer. Every refusal returns its number alone."""
+"""What store calls, the reader, the writer and the salvage answer. Every refusal returns its number alone."""
 
 from typing import NamedTuple
 
@@ -59,3 +59,21 @@ class Written(NamedTuple):
     """The answer is the file's length; the file stands at the beginning of the buffer."""
 
     length: int
+
+
+class Lost(NamedTuple):
+    """For each sample how many of its bytes did not exist and how many that did exist were dropped; for the file how
+    many bytes after both samples were cut off."""
+
+    first_missing: int
+    first_dropped: int
+    second_missing: int
+    second_dropped: int
+    cut_off: int
+
+
+class Salvaged(NamedTuple):
+    """The answer is the saved file's length and what was lost; the file stands at the beginning of the buffer."""
+
+    length: int
+    lost: Lost

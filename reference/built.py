@@ -3,10 +3,10 @@
 import subprocess
 from pathlib import Path
 
-from reference import program
+from reference import program, salvage
 from reference.command import Fault
 from reference.difference import Difference, demand_equal
-from reference.inputs import damaged_file, drawn_file, fixed_files
+from reference.inputs import damaged_file, drawn_file, file_to_salvage, fixed_damages, fixed_files
 from reference.processor import command
 from reference.replay import CLOSING_QUESTIONS, replay_of
 from reference.script import SCRIPT_BYTES, UNKNOWN, Player, answer_kind, parse
@@ -22,8 +22,9 @@ class Built:
     def __init__(self, path):
         self.command = command(path)
 
-    def output(self, given, shown):
-        """What it prints; `shown` is the input as a text, for a run that goes wrong."""
+    def run(self, given, shown):
+        """What it writes to standard output and to standard error; `shown` is the input as a text, for a run that goes
+        wrong."""
         try:
             run = subprocess.run(self.command, input=given, capture_output=True, timeout=LONGEST_RUN)
         except subprocess.TimeoutExpired:
@@ -32,7 +33,11 @@ class Built:
             raise Fault(f"{str(self.command[-1])!r} cannot be run: {fault.strerror}") from None
         if run.returncode != 0:
             raise Difference("exit status", shown, built=run.returncode, errors=run.stderr)
-        return run.stdout.decode("ascii", "backslashreplace")
+        return run.stdout, run.stderr.decode("ascii", "backslashreplace")
+
+    def output(self, given, shown):
+        """What it prints."""
+        return self.run(given, shown)[0].decode("ascii", "backslashreplace")
 
 
 class BuiltProgram(Built):
@@ -52,6 +57,28 @@ class BuiltProgram(Built):
         demand_equal("program", file.hex(" "), reference=expected, built=self.output(file, file.hex(" ")))
         kind = expected.strip() if expected.startswith("refused") else "report printed"
         tally["program: files", kind] += 1
+
+
+class BuiltSalvage(Built):
+    """The program `salvaging`: the saved file at standard output, what was lost or refused at standard error."""
+
+    def compare_fixed(self, tally):
+        """Every cut and every spoilt byte of two files, the files at the limits, and long inputs."""
+        for damaged in fixed_damages():
+            self.compare(damaged, tally)
+
+    def compare_drawn(self, random, tally):
+        """One damaged file, or a whole one."""
+        self.compare(file_to_salvage(random), tally)
+
+    def compare(self, damaged, tally):
+        shown = salvage.shown(damaged)
+        saved, line = salvage.output(damaged)
+        built_saved, built_line = self.run(damaged, shown)
+        demand_equal("what was lost", shown, reference=line, built=built_line)
+        demand_equal("saved file", shown, reference=saved.hex(" "), built=built_saved.hex(" "))
+        refused = line.startswith("refused")
+        tally["salvage: files", line.strip() if refused else salvage.losses_kind(map(int, line.split()))] += 1
 
 
 class BuiltScripts(Built):

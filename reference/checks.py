@@ -4,19 +4,21 @@ Each function draws one case from `random`, raises a Difference where the ways p
 the tally what it compared.
 """
 
-from reference.answers import Refused, Shape, Written
+from reference.answers import Lost, Refused, Salvaged, Shape, Written
 from reference.contexts import strings_up_to
 from reference.counts import UNSEEN, N, counts_by_place, total
 from reference.difference import Difference, demand_equal
 from reference.estimate import Recursion, Scale
 from reference.inputs import damaged_file, drawn_file, drawn_room, drawn_sample, drawn_sitting, drawn_values
+from reference.inputs import file_to_salvage
 from reference.limits import ALPHABETS, DEPTHS
 from reference.logarithm import L, follows_rule
 from reference.program import INPUT_BYTES
 from reference.replay import CLOSING_QUESTIONS, replay_of
 from reference.rows import rows_of
+from reference.salvage import losses_kind, output, salvage, shown
 from reference.script import Player, answer_kind
-from reference.sitting_file import read, samples_of, write, write_into
+from reference.sitting_file import LENGTHS, number_bytes, read, samples_of, write, write_into
 from reference.store import OpenSitting
 from reference.triples import best_triples, first_by_ties, is_admissible
 from reference.walks import drawn_walk
@@ -168,6 +170,111 @@ def check_written_again(random, tally):
     tally["writer: accepted files written again", ""] += 1
 
 
+def header_by_forms(file):
+    """The header as one of those that the writer writes, and the bytes after it; none where the file begins with no
+    such header."""
+    numbers = []
+    for limits in (ALPHABETS, DEPTHS, LENGTHS, LENGTHS):
+        number = next((number for number in limits if file.startswith(number_bytes(number))), None)
+        if number is None:
+            return None
+        numbers.append(number)
+        file = file[len(number_bytes(number)) :]
+    return Shape(*numbers), file
+
+
+def longest_good(sample, A):
+    """The longest beginning of the sample's bytes whose largest is below A."""
+    return max((sample[:length] for length in range(len(sample) + 1) if max(sample[:length], default=0) < A), key=len)
+
+
+def saved_of(damaged):
+    """The saved file and what was lost of a file with a whole header, with more bytes lent than any file has."""
+    buffer = bytearray(INPUT_BYTES)
+    answer = salvage(damaged, buffer)
+    if isinstance(answer, Refused):
+        raise Difference("file with a whole header", shown(damaged), salvaged=answer)
+    return bytes(buffer[: answer.length]), answer.lost
+
+
+NOTHING_LOST = Lost(0, 0, 0, 0, 0)
+
+
+def check_salvage(random, tally):
+    """Refused as the reader refuses the file where no header of the writer's forms begins it, else with 19 where the
+    buffer is shorter than the saved file; only an accepted call writes, and nothing but that file."""
+    damaged = file_to_salvage(random)
+    header = header_by_forms(damaged)
+    saved, lost = saved_of(damaged) if header else (damaged, None)
+    before = random.randbytes(drawn_room(random, saved))
+    buffer = bytearray(before)
+    answer = salvage(damaged, buffer)
+    rule = Refused(19) if len(before) < len(saved) else Salvaged(len(saved), lost)
+    asked = shown(damaged), f"{len(before)} bytes lent"
+    demand_equal("salvage", asked, rule=rule if header else read(damaged), salvaged=answer)
+    end = answer.length if isinstance(answer, Salvaged) else 0
+    demand_equal("lent buffer", asked, rule=saved[:end] + before[end:], salvaged=bytes(buffer))
+    kind = f"refused {answer.number}" if isinstance(answer, Refused) else "salvaged"
+    tally["salvage: files and bytes lent, by the writer's headers and the reader", kind] += 1
+
+
+def check_saved(random, tally):
+    """What is kept, and what is said to be lost, of a file with a whole header."""
+    damaged = file_to_salvage(random)
+    header = header_by_forms(damaged)
+    if header is None:
+        tally["salvage: saved files", "header refused"] += 1
+        return
+    saved, lost = saved_of(damaged)
+    demand_beginnings(shown(damaged), *header, saved)
+    demand_sums(shown(damaged), *header, read(saved), lost)
+    tally["salvage: saved files", losses_kind(lost)] += 1
+
+
+def demand_beginnings(asked, header, rest, saved):
+    """The saved file is read with the same A and D, and has the longest good beginning of each sample's bytes."""
+    A, D, n, m = header
+    shape = read(saved)
+    demand_equal("saved file", asked, damaged=(A, D), read=shape[:2])
+    kept = tuple(tuple(longest_good(sample, A)) for sample in (rest[:n], rest[n : n + m]))
+    demand_equal("symbols kept", asked, longest=kept, read=samples_of(saved, shape))
+
+
+def demand_sums(asked, header, rest, shape, lost):
+    """Kept, missing and dropped make n or m; kept, dropped and cut off make the bytes after the header."""
+    n, m = header.n, header.m
+    missing = [sum(place >= len(rest) for place in places) for places in (range(n), range(n, n + m))]
+    demand_equal("bytes that did not exist", asked, by_place=missing, told=[lost.first_missing, lost.second_missing])
+    first, second = shape.n + sum(lost[:2]), shape.m + sum(lost[2:4])
+    demand_equal("kept, missing and dropped", asked, header=(n, m), added=(first, second))
+    existing = shape.n + shape.m + lost.first_dropped + lost.second_dropped + lost.cut_off
+    demand_equal("kept, dropped and cut off", asked, bytes=len(rest), added=existing)
+
+
+def check_sound(random, tally):
+    """Just what the reader accepts loses nothing, and stays the same; a saved file loses nothing more. No saved file is
+    longer than the damaged one."""
+    damaged = file_to_salvage(random)
+    answer = read(damaged)
+    if header_by_forms(damaged):
+        asked = shown(damaged)
+        saved, lost = saved_of(damaged)
+        accepted = isinstance(answer, Shape)
+        demand_equal("sound file", asked, accepted=accepted, nothing_lost=lost == NOTHING_LOST, same=saved == damaged)
+        demand_equal("salvaged again", asked, once=(saved, NOTHING_LOST), twice=saved_of(saved))
+        demand_equal("longer than the damaged file", asked, rule=False, saved=len(saved) > len(damaged))
+    kind = f"refused {answer.number}" if isinstance(answer, Refused) else "accepted"
+    tally["salvage: files, by what the reader says of them", kind] += 1
+
+
+def check_longer_input(random, tally):
+    """The whole input against its first 2,048 bytes and how many follow."""
+    damaged = file_to_salvage(random)
+    beginning, following = damaged[:INPUT_BYTES], len(damaged[INPUT_BYTES:])
+    demand_equal("input", shown(damaged), whole=output(damaged), beginning=output(beginning, following))
+    tally["salvage: inputs whole against their beginning", "longer" if following else "not longer"] += 1
+
+
 def check_replay(random, tally):
     """A walk over eight desks against its accepted calls played sitting by sitting on a new store."""
     walk = drawn_walk(random, remake=False)
@@ -200,5 +307,9 @@ CHECKS = [
     (check_damaged, 30),
     (check_writing, 20),
     (check_written_again, 10),
+    (check_salvage, 20),
+    (check_saved, 20),
+    (check_sound, 10),
+    (check_longer_input, 10),
     (check_replay, 3),
 ]

@@ -1,6 +1,6 @@
 """Compares the reference with itself, and with the built programs where their paths are given.
 
-    python3 -m reference.compare [--seed S] [--seconds T] [--program PATH] [--scripts PATH]
+    python3 -m reference.compare [--seed S] [--seconds T] [--program PATH] [--scripts PATH] [--salvage PATH]
 
 Prints how many of each kind were compared. At the first difference it prints it whole and ends
 with 1. A case is fixed by seed, kind and round, so a difference comes again with the same seed.
@@ -11,7 +11,7 @@ import time
 from collections import Counter
 from random import Random
 
-from reference.built import BuiltProgram, BuiltScripts
+from reference.built import BuiltProgram, BuiltSalvage, BuiltScripts
 from reference.checks import CHECKS
 from reference.command import Fault, Parser, run
 from reference.difference import Difference
@@ -19,6 +19,7 @@ from reference.difference import Difference
 FILES_A_ROUND = 40
 SCRIPTS_A_ROUND = 1
 REPLAYS_A_ROUND = 2
+SALVAGES_A_ROUND = 40
 ROUNDS = ("rounds", "")
 COMMAND = "python3 -m reference.compare"
 
@@ -29,33 +30,36 @@ def arguments():
     parser.add_argument("--seconds", type=float, default=30, help="rounds are begun for so long (30)")
     parser.add_argument("--program", metavar="PATH", help="the built program that reads a sitting file")
     parser.add_argument("--scripts", metavar="PATH", help="the built program that plays scripts")
+    parser.add_argument("--salvage", metavar="PATH", help="the built program that salvages a sitting file")
     given = parser.parse_args()
     if not given.seconds >= 0:
         raise Fault(f"--seconds is a number from 0 up, not {given.seconds}")
     return given
 
 
-def drawn_kinds(program, scripts):
+def drawn_kinds(given):
     """What is compared in each round, and how often."""
     kinds = list(CHECKS)
-    if program is not None:
-        kinds.append((BuiltProgram(program).compare_drawn, FILES_A_ROUND))
-    if scripts is not None:
-        kinds.append((BuiltScripts(scripts).compare_drawn, SCRIPTS_A_ROUND))
-        kinds.append((BuiltScripts(scripts).compare_replay, REPLAYS_A_ROUND))
+    if given.program is not None:
+        kinds.append((BuiltProgram(given.program).compare_drawn, FILES_A_ROUND))
+    if given.scripts is not None:
+        kinds.append((BuiltScripts(given.scripts).compare_drawn, SCRIPTS_A_ROUND))
+        kinds.append((BuiltScripts(given.scripts).compare_replay, REPLAYS_A_ROUND))
+    if given.salvage is not None:
+        kinds.append((BuiltSalvage(given.salvage).compare_drawn, SALVAGES_A_ROUND))
     return kinds
 
 
-def compare(seed, seconds, program, scripts, tally):
+def compare(given, tally):
     """Fixed cases first, then rounds until the time is over; the round in which it ends goes through."""
-    end = time.monotonic() + seconds
-    if program is not None:
-        BuiltProgram(program).compare_fixed(tally)
-    if scripts is not None:
-        BuiltScripts(scripts).compare_fixed(tally)
-    kinds = drawn_kinds(program, scripts)
+    end = time.monotonic() + given.seconds
+    built = [(BuiltProgram, given.program), (BuiltScripts, given.scripts), (BuiltSalvage, given.salvage)]
+    for kind, path in built:
+        if path is not None:
+            kind(path).compare_fixed(tally)
+    kinds = drawn_kinds(given)
     while tally[ROUNDS] == 0 or time.monotonic() < end:
-        play_round(kinds, seed, tally)
+        play_round(kinds, given.seed, tally)
 
 
 def play_round(kinds, seed, tally):
@@ -80,7 +84,7 @@ def main():
     given = arguments()
     tally = Counter()
     try:
-        compare(given.seed, given.seconds, given.program, given.scripts, tally)
+        compare(given, tally)
     except Difference as difference:
         print_tally(tally)
         print(f"difference in round {tally[ROUNDS]} of seed {given.seed}\n{difference}")

@@ -1,9 +1,13 @@
-"""Random sittings and sitting files, whole and damaged, and values to be written. Everything is drawn
-from the `random` given, so a seed fixes it."""
+"""Random sittings and sitting files, whole and damaged, values to be written and files to be salvaged. Everything is
+drawn from the `random` given, so a seed fixes it."""
+
+from pathlib import Path
 
 from reference.estimate import Sitting
 from reference.limits import ALPHABETS, DEPTHS, SAMPLE_LIMIT
 from reference.sitting_file import number_bytes, write
+
+SAMPLES = Path(__file__).resolve().parents[1] / "samples"
 
 # Which lengths are drawn, and how often: short ones for ties, long ones for deep trees.
 LENGTHS = [(range(0, 3), 1), (range(1, 9), 6), (range(9, 65), 5), (range(65, 400), 3), (range(505, 513), 1)]
@@ -200,6 +204,49 @@ def damaged_file(random):
     return file
 
 
+def spoilt_symbols(random, A, sample):
+    """The sample's bytes, up to three of them at the alphabet's limit or far outside it."""
+    symbols = bytearray(sample)
+    for _ in range(random.choice([0, 0, 1, 1, 2, 3]) if symbols else 0):
+        spoilt = random.choice([A - 1, A, A + 1, 127, 128, random.randrange(128, 256), 255])
+        symbols[random.randrange(len(symbols))] = spoilt
+    return bytes(symbols)
+
+
+def whole_samples(random, first, second):
+    return first + second
+
+
+def ends_in_first(random, first, second):
+    return cut_short(random, first)
+
+
+def ends_in_second(random, first, second):
+    return first + cut_short(random, second)
+
+
+def goes_on(random, first, second):
+    """A few bytes more, or many more than any file has."""
+    return first + second + random.randbytes(random.choice([1, 2, random.randrange(9, 5000), 70000]))
+
+
+ENDS = [whole_samples, ends_in_first, ends_in_second, goes_on]
+
+
+def damaged_samples(random):
+    """A file whose header is whole: symbols of both samples may be spoilt, and it may end within one of them or go on
+    after both."""
+    A, D, samples = drawn_sitting(random)
+    whole = write(A, D, *samples)
+    header = whole[: len(whole) - sum(map(len, samples))]
+    return header + random.choice(ENDS)(random, *(spoilt_symbols(random, A, sample) for sample in samples))
+
+
+def file_to_salvage(random):
+    """Mostly a file whose samples are damaged; also files damaged anywhere, and whole ones."""
+    return weighted(random, [(damaged_samples, 4), (damaged_file, 3), (drawn_file, 1)])(random)
+
+
 def other_alphabet(random, sitting):
     return sitting._replace(A=random.choice([0, 1, 2, 3, 7, 8, 9, 10, 128, 256, 258, 16383]))
 
@@ -249,7 +296,7 @@ def drawn_values(random):
 
 def drawn_room(random, file):
     """How many bytes are lent for a file: around its length, none, or any number up to more than the longest file has."""
-    return random.choice([0, len(file) - 1, len(file), len(file) + 1, random.randrange(2 * SAMPLE_LIMIT + 80)])
+    return random.choice([0, max(len(file) - 1, 0), len(file), len(file) + 1, random.randrange(2 * SAMPLE_LIMIT + 80)])
 
 
 def fixed_files():
@@ -360,3 +407,45 @@ def too_long():
     """The longest accepted file, and bytes past it up to and past what the program reads."""
     longest = write(2, 1, (0, 1) * 256, (0,) * SAMPLE_LIMIT)
     return [longest, *(longest + bytes(2048 - len(longest) + more) for more in (-1, 0, 1)), bytes(2048), b"\x02" * 4096]
+
+
+def every_cut(file):
+    """The file's beginnings of every length."""
+    return [file[:length] for length in range(len(file) + 1)]
+
+
+def spoilt_at(file, place, byte):
+    return file[:place] + bytes([byte]) + file[place + 1 :]
+
+
+def every_spoilt_byte(file):
+    """The file with one byte exchanged, at every place: by symbols just within and just outside its alphabet, 0, and
+    bytes with the high bit."""
+    A = file[0]
+    values = sorted({0, A - 1, A, 0x80, 0xFF})
+    return [spoilt_at(file, place, byte) for place in range(len(file)) for byte in values if byte != file[place]]
+
+
+def edges_of_two_groups():
+    """Both lengths in two groups: ends and spoilt bytes around the beginning and the end of each sample."""
+    first, second = (0, 1) * 64, (2, 1) * 65
+    file = write(3, 1, first, second)
+    middle = len(file) - len(second)
+    begin = middle - len(first)
+    places = [begin, begin + 1, middle - 1, middle, middle + 1, len(file) - 1]
+    return [file[:place] for place in places] + [spoilt_at(file, place, 3) for place in places]
+
+
+def with_long_ends(file):
+    """The file with bytes after it: around what the program reads, around other powers of two, and far above."""
+    lengths = [2**power + more for power in (11, 12, 16) for more in (-1, 0, 1)] + [70000, 300000]
+    return [file + b"\xff" * (length - len(file)) for length in lengths]
+
+
+def fixed_damages():
+    """Each cut and each spoilt byte of two files, of which one has a length in two groups; the fixed files; inputs much
+    longer than a file."""
+    habit = (SAMPLES / "one_habit.sitting").read_bytes()
+    whole = [habit, write(2, 1, (0, 1) * 64, (1, 1, 0))]
+    damaged = [each for file in whole for each in every_cut(file) + every_spoilt_byte(file)]
+    return damaged + edges_of_two_groups() + fixed_files() + with_long_ends(habit) + [bytes(70000)]

@@ -8,7 +8,7 @@ import unittest
 from pathlib import Path
 
 REPOSITORY = Path(__file__).resolve().parents[2]
-MODULES = ("cases", "compare", "program", "script")
+MODULES = ("cases", "compare", "program", "salvage", "script")
 SCRIPTS = [".ci/run", "bench/before", "bench/constants", "bench/crates", "bench/programs", "bench/run"]
 SCRIPTS += ["bindings/readme", "bindings/test", "samples/make"]
 SCRIPTS += ["bindings/python/build", "bindings/python/play.py", "bindings/python/sitting.py", "tools/picture"]
@@ -19,7 +19,7 @@ LONGEST = 60  # seconds
 # What takes the path of a file: a command, and its words before the path.
 FILES = [("bench/before",), ("bench/constants",), ("bench/crates",), ("bench/run",), ("samples/make",), ("tools/picture",)]
 FILES += [("tools/picture", "samples/alike.sitting", "--names")]
-FILES += [("python3 -m reference.compare", "--program"), ("python3 -m reference.compare", "--scripts")]
+FILES += [("python3 -m reference.compare", option) for option in ("--program", "--scripts", "--salvage")]
 # What a file holds that no command can use.
 CONTENTS = {"empty": b"", "no-text": b"\xff\xfe\x00", "line": b"asks\n", "binary": bytes(range(256))}
 
@@ -28,6 +28,7 @@ WRONG = [
     ("python3 -m reference.compare", ["--seconds", "-1"], b"", "from 0 up"),
     ("python3 -m reference.compare", ["--seconds", "nan"], b"", "from 0 up"),
     ("python3 -m reference.compare", ["--program", ""], b"", "'' cannot be run"),
+    ("python3 -m reference.compare", ["--salvage", ""], b"", "'' cannot be run"),
     ("python3 -m reference.script", [], b"9", "no call has the number 9"),
     ("python3 -m reference.script", [], b"2 0 0", "ends within a call"),
     ("python3 -m reference.script", [], b"3 " + b"9" * 5000, "more than 32 bits"),
@@ -87,7 +88,8 @@ class Commands(unittest.TestCase):
     def test_unknown_options(self):
         for name in NAMES:
             self.fails("--help says more", name, "--unknown")
-        for name in ("bindings/test", "python3 -m reference.cases", "python3 -m reference.program"):
+        modules = [f"python3 -m reference.{module}" for module in ("cases", "program", "salvage")]
+        for name in ("bindings/test", *modules):
             self.fails("--help says more", name, "word")
 
     def test_files_that_cannot_be_used(self):
@@ -119,6 +121,7 @@ class Commands(unittest.TestCase):
             ("bench/crates", b""),
             ("tools/picture", EXAMPLE),
             ("python3 -m reference.program", EXAMPLE),
+            ("python3 -m reference.salvage", EXAMPLE),
             ("python3 -m reference.script", b"4"),
         ]:
             reading, writing = os.pipe()

@@ -6,15 +6,25 @@ import sys
 import tempfile
 import unittest
 from collections import Counter
+from itertools import takewhile
 from pathlib import Path
 from random import Random
+from unittest.mock import patch
 
-from reference.checks import CHECKS
+from reference import checks, salvage, sitting_file
+from reference.answers import Lost, Refused, Shape, Written
+from reference.built import BuiltSalvage
+from reference.checks import CHECKS, check_longer_input, check_salvage, check_saved, check_sound, header_by_forms
+from reference.difference import Difference
+from reference.inputs import fixed_damages
 from reference.replay import accepted, by_sitting, replay_of
+from reference.salvage import losses
 from reference.script import call
+from reference.sitting_file import number_bytes, read, write, write_into
 from reference.walks import drawn_walk
 
 CORRECT = f"exec {sys.executable} -m reference."
+README = Path(__file__).resolve().parents[1] / "README.md"
 
 
 def run_compare(**built):
@@ -61,6 +71,164 @@ class Built(unittest.TestCase):
         self.assertEqual(status, 0, printed)
         self.assertIn("scripts: runs", printed)
 
+    def test_a_salvage_that_saves_all_and_says_nothing(self):
+        status, printed = run_compare(salvage="cat")
+        self.assertEqual(status, 1)
+        self.assertIn("what was lost\nasked:\n\nreference:\nrefused 13\n\nbuilt:\n", printed)
+
+    def test_a_salvage_without_a_file(self):
+        status, printed = run_compare(salvage=CORRECT + "salvage >/dev/null")
+        self.assertEqual(status, 1)
+        self.assertIn("saved file\nasked:\n03 02 3c 3c\nreference:\n03 02 00 00\nbuilt:\n", printed)
+
+    def test_a_salvage_that_fails(self):
+        status, printed = run_compare(salvage="echo refused 13 >&2; exit 3")
+        self.assertEqual(status, 1)
+        self.assertIn("exit status", printed)
+
+
+class Salvage(BuiltSalvage):
+    """A salvage in this process in the place of a built one."""
+
+    def __init__(self, salvaged):
+        self.salvaged = salvaged
+
+    def run(self, given, shown):
+        return self.salvaged(given)
+
+
+def keeping(kept):
+    """A salvage whose samples keep other bytes."""
+
+    def salvaged(damaged):
+        with patch.object(salvage, "kept", kept):
+            return salvage.output(damaged)
+
+    return salvaged
+
+
+def unless_refused(change):
+    """A salvage that refuses as it should, and else changes the saved file and the five numbers."""
+
+    def salvaged(damaged):
+        saved, line = salvage.output(damaged)
+        if line.startswith("refused"):
+            return saved, line
+        saved, lost = change(damaged, saved, Lost(*map(int, line.split())))
+        return saved, " ".join(map(str, lost)) + "\n"
+
+    return salvaged
+
+
+def telling(change):
+    """A salvage that saves as it should, and tells other numbers."""
+    return unless_refused(lambda damaged, saved, lost: (saved, change(lost)))
+
+
+def with_header(damaged, saved, *lengths):
+    """The saved file's symbols after a header with these lengths as bytes."""
+    shape = read(saved)
+    return damaged[:2] + b"".join(lengths) + saved[len(saved) - shape.n - shape.m :]
+
+
+def second_moved(damaged, saved, lost):
+    """The second sample begins after the bytes that the first kept."""
+    (A, D, n, m), rest = header_by_forms(damaged)
+    header = damaged[:2] + number_bytes(n - lost.first_missing - lost.first_dropped) + number_bytes(m)
+    return salvage.output(header + rest)[0], lost
+
+
+def old_lengths(damaged, saved, lost):
+    shape = header_by_forms(damaged)[0]
+    return with_header(damaged, saved, number_bytes(shape.n), number_bytes(shape.m)), lost
+
+
+def two_groups_stay(damaged, saved, lost):
+    """A first length that had two groups has two still, though it may need one."""
+    n, m = read(saved)[2:]
+    first = bytes([128 + n % 128, n // 128]) if damaged[2] >= 128 else number_bytes(n)
+    return with_header(damaged, saved, first, number_bytes(m)), lost
+
+
+def refuses_more(damaged):
+    """Bytes after both samples are refused as the reader refuses them."""
+    saved, line = salvage.output(damaged)
+    return (saved, line) if line.startswith("refused") or line.endswith(" 0\n") else (b"", "refused 16\n")
+
+
+WRONG_SALVAGES = {
+    "refuses a bad symbol": keeping(lambda sample, A: sample),
+    "keeps the byte A": keeping(lambda sample, A: bytes(takewhile(lambda byte: byte <= A, sample))),
+    "drops the byte A-1": keeping(lambda sample, A: bytes(takewhile(lambda byte: byte < A - 1, sample))),
+    "ignores high bits": keeping(lambda sample, A: bytes(takewhile(lambda byte: byte % 128 < A, sample))),
+    "keeps good bytes after a bad one": keeping(lambda sample, A: bytes(byte for byte in sample if byte < A)),
+    "moves the second sample": unless_refused(second_moved),
+    "keeps the old lengths": unless_refused(old_lengths),
+    "keeps two groups": unless_refused(two_groups_stay),
+    "says that nothing was lost": telling(lambda lost: (0, 0, 0, 0, 0)),
+    "exchanges the samples' losses": telling(lambda lost: lost[2:4] + lost[:2] + lost[4:]),
+    "exchanges missing and dropped": telling(lambda lost: [lost[place] for place in (1, 0, 3, 2, 4)]),
+    "counts in 16 bits": telling(lambda lost: [count % 2**16 for count in lost]),
+    "reads 2,048 bytes": lambda damaged: salvage.output(damaged[:2048]),
+    "refuses with 16": refuses_more,
+    "ends no line": lambda damaged: (salvage.output(damaged)[0], salvage.output(damaged)[1].rstrip()),
+    "writes a byte more": unless_refused(lambda damaged, saved, lost: (saved + b"\0", lost)),
+}
+
+
+class Salvages(unittest.TestCase):
+    def test_a_right_one(self):
+        tally = Counter()
+        Salvage(salvage.output).compare_fixed(tally)
+        self.assertEqual(sum(tally.values()), len(fixed_damages()))
+        self.assertIn(f"\n{len(fixed_damages()):,} fixed inputs", README.read_text("utf-8"))
+        for seed in range(100):
+            Salvage(salvage.output).compare_drawn(Random(seed), tally)
+        kinds = {kind for _, kind in tally}
+        self.assertTrue({"refused 13", "refused 14", "refused 15", "nothing lost", "cut off"} <= kinds, kinds)
+        self.assertTrue({"missing", "dropped", "missing and dropped", "dropped and cut off"} <= kinds, kinds)
+
+    def test_wrong_ones_are_found_by_fixed_files(self):
+        for wrong, salvaged in WRONG_SALVAGES.items():
+            with self.subTest(wrong), self.assertRaises(Difference):
+                Salvage(salvaged).compare_fixed(Counter())
+
+    def test_wrong_ones_are_found_by_drawn_files(self):
+        for wrong, salvaged in WRONG_SALVAGES.items():
+            with self.subTest(wrong), self.assertRaises(Difference):
+                for seed in range(200):
+                    Salvage(salvaged).compare_drawn(Random(seed), Counter())
+
+
+def written_past(A, D, first, second, buffer):
+    """Every byte that is lent is written."""
+    answer = write_into(A, D, first, second, buffer)
+    if isinstance(answer, Written):
+        buffer[answer.length :] = bytes(len(buffer) - answer.length)
+    return answer
+
+
+def written_into_more(A, D, first, second, buffer):
+    """A byte more than the file has must be lent."""
+    return write_into(A, D, first, second, buffer) if len(buffer) != len(write(A, D, first, second)) else Refused(19)
+
+
+def deaf_header(reading):
+    """Lengths outside their limits are read too."""
+    return Shape(*(reading.number(range(2**14)) for _ in range(4)))
+
+
+WRONG_DEFINITIONS = {
+    "keeps one byte less": (salvage, "kept", lambda sample, A: bytes(takewhile(lambda byte: byte < A, sample))[:-1]),
+    "drops the byte A-1": (salvage, "kept", lambda sample, A: bytes(takewhile(lambda byte: byte < A - 1, sample))),
+    "keeps good bytes after a bad one": (salvage, "kept", lambda sample, A: bytes(byte for byte in sample if byte < A)),
+    "exchanges missing and dropped": (salvage, "losses", lambda sample, n, A: losses(sample, n, A)[::-1]),
+    "counts dropped bytes as missing": (salvage, "losses", lambda sample, n, A: (sum(losses(sample, n, A)), 0)),
+    "writes all that is lent": (sitting_file, "write_into", written_past),
+    "wants a byte more": (sitting_file, "write_into", written_into_more),
+    "reads any length": (sitting_file.Reading, "header", deaf_header),
+}
+
 
 class Checks(unittest.TestCase):
     def test_each_draws_and_compares(self):
@@ -69,6 +237,20 @@ class Checks(unittest.TestCase):
             for seed in range(3):
                 check(Random(seed), tally)
             self.assertGreater(sum(tally.values()), 0, check.__name__)
+
+
+    def test_wrong_salvages_are_found(self):
+        """The second program's own, with one of its definitions changed."""
+        for wrong, (module, name, definition) in WRONG_DEFINITIONS.items():
+            with self.subTest(wrong), patch.object(module, name, definition), self.assertRaises(Difference):
+                for seed in range(200):
+                    for check in (check_salvage, check_saved, check_sound):
+                        check(Random(seed), Counter())
+
+    def test_a_wrong_beginning_of_the_input_is_found(self):
+        with patch.object(checks, "INPUT_BYTES", 64), self.assertRaises(Difference):
+            for seed in range(200):
+                check_longer_input(Random(seed), Counter())
 
 
 class Replay(unittest.TestCase):

@@ -1,13 +1,25 @@
 """The samples are what their sources make them, and their explanations quote the real reports."""
 
+import os
+import re
+import shutil
+import subprocess
+import sys
+import tempfile
 import unittest
 from importlib.machinery import SourceFileLoader
 from importlib.util import module_from_spec, spec_from_loader
 from pathlib import Path
 
+from reference import salvage
+from reference.counts import total
+from reference.inputs import spoilt_at
 from reference.program import output
+from reference.sitting_file import read, samples_of
 
-SAMPLES = Path(__file__).resolve().parents[2] / "samples"
+REPOSITORY = Path(__file__).resolve().parents[2]
+SAMPLES = REPOSITORY / "samples"
+LISTENS = 1
 
 
 def maker():
@@ -26,6 +38,17 @@ class Samples(unittest.TestCase):
             made = maker().sitting_file(source.read_text())
             self.assertEqual(source.with_suffix(".sitting").read_bytes(), made, source.name)
 
+    def test_all_are_written_anew(self):
+        """In a copy of the folder without its sitting files."""
+        with tempfile.TemporaryDirectory() as folder:
+            copy = Path(folder, "samples")
+            shutil.copytree(SAMPLES, copy, ignore=shutil.ignore_patterns("*.sitting"))
+            settings = {"env": {**os.environ, "PYTHONPATH": str(REPOSITORY)}, "check": True}
+            subprocess.run([sys.executable, copy / "make"], **settings)
+            made = {file.name: file.read_bytes() for file in copy.glob("*.sitting")}
+        self.assertEqual(made, {file.name: file.read_bytes() for file in SAMPLES.glob("*.sitting")})
+        self.assertEqual(len(made), 5)
+
     def test_text_of_one_line(self):
         made = maker().sitting_file("alphabet 2\ndepth 1\n0 1 0 1 / 0 0 1 0\n")
         self.assertEqual(made.hex(), "020104040001000100000100")
@@ -34,3 +57,49 @@ class Samples(unittest.TestCase):
         readme = (SAMPLES / "README.md").read_text()
         for file in SAMPLES.glob("*.sitting"):
             self.assertIn(f"## `{file.name}`\n\n```\n{output(file.read_bytes())}```\n", readme)
+
+
+class Damaged(unittest.TestCase):
+    """The section about damaged.sitting: each number in it, by the second program."""
+
+    def setUp(self):
+        self.words = (SAMPLES / "README.md").read_text().partition("## `damaged.sitting`")[2]
+        self.sentences = " ".join(self.words.split())
+        self.damaged = (SAMPLES / "damaged.sitting").read_bytes()
+        self.saved, self.line = salvage.output(self.damaged)
+        self.lost = list(map(int, self.line.split()))
+        self.whole = self.samples((SAMPLES / "one_habit.sitting").read_bytes())
+        self.kept = self.samples(self.saved)
+
+    def samples(self, file):
+        return samples_of(file, read(file))
+
+    def test_it_is_damaged_as_the_section_says(self):
+        said = r"learner's act (\d+) is spoilt, and the file ends after (\d+) of the reference's"
+        act, acts = map(int, re.search(said, self.sentences).groups())
+        whole = (SAMPLES / "one_habit.sitting").read_bytes()
+        header = len(whole) - sum(map(len, self.whole))
+        spoilt = spoilt_at(whole, header + act - 1, 0xFF)
+        self.assertEqual(self.damaged, spoilt[: header + len(self.whole[0]) + acts])
+
+    def test_the_line(self):
+        self.assertIn(f"\n```\n{self.line}```\n", self.words)
+        self.assertEqual([int(number) for number in re.findall(r"^\| (\d+) \|", self.words, re.MULTILINE)], self.lost)
+
+    def test_the_numbers_in_words(self):
+        first, second = map(len, self.whole)
+        dropped, missing = self.lost[1:3]
+        self.assertIn(f"none of the learner's {first} acts is missing", self.sentences)
+        self.assertIn(f"{dropped} were dropped: the spoilt one and the {dropped - 1} after it", self.sentences)
+        self.assertIn(f"of the reference's {second} acts, {missing} are missing", self.sentences)
+        first, second = map(len, self.kept)
+        self.assertIn(f"is kept: {first} of the learner's acts and {second} of the reference's", self.sentences)
+
+    def test_the_report_of_what_is_saved(self):
+        report = output(self.saved)
+        self.assertIn(f"\n```\n{report}```\n", self.words)
+        rows = [row.split() for row in report.splitlines()[1:]]
+        self.assertEqual([row[0] for row in rows], ["0", "0", "0"], "all three rows are shared")
+        before, left = ([total(sample, (LISTENS,), 3) for sample in samples] for samples in (self.whole, self.kept))
+        said = f"{left[0]} of the learner's {before[0]} and {left[1]} of the reference's {before[1]} are left"
+        self.assertIn(f"of the acts that came after listening, {said}", self.sentences)
