@@ -26,7 +26,7 @@ def read(file):
     SittingFile(alphabet=2, depth=1, first=b'\\x00\\x01\\x00', second=b'\\x01')
     >>> read(bytes([2, 1, 3, 1, 0]))
     Traceback (most recent call last):
-    sobumikeyo.refusals.Refusal: refused 13: The file ends too early. See that all of it was copied, and that it has as many symbols as its header says.
+    sobumikeyo.refusals.Refusal: refused 13: The file ends too early. See that all of it was copied, and that it has as many symbols as its header says. Where the header is whole, a salvage keeps what is there.
     """
     file = byte_run(file, "file")
     shape = (c_uint32 * 4)()
@@ -46,7 +46,7 @@ def write(first, second, alphabet, depth):
     b'\\x02\\x01\\x03\\x01\\x00\\x01\\x00\\x01'
     >>> write([0, 2, 0], [1], alphabet=2, depth=1)
     Traceback (most recent call last):
-    sobumikeyo.refusals.Refusal: refused 15: A number of the file, read or to be written, is outside its limits. Keep the alphabet from 2 to 8, the depth to 6, each length to 512, and each symbol below the alphabet's size.
+    sobumikeyo.refusals.Refusal: refused 15: A number of the file, read or to be written, is outside its limits. Keep the alphabet from 2 to 8, the depth to 6, each length to 512, and each symbol below the alphabet's size. If it is a symbol in a file, a salvage keeps its sample up to it.
     """
     first, second = byte_run(first, "first"), byte_run(second, "second")
     shape = number(alphabet, "alphabet"), number(depth, "depth")
