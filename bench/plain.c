@@ -155,7 +155,7 @@ uint32_t plain_chart(const trie *t, uint32_t length, uint32_t code, uint32_t sym
 
 // ---- the sitting file
 
-enum { OUTSIDE = 15, SHORT = 19 };
+enum { EARLY = 13, LONGER = 14, OUTSIDE = 15, SHORT = 19 };
 
 // A number of one group of seven bits, or of two.
 static uint8_t *put_number(uint8_t *to, size_t number) {
@@ -188,10 +188,62 @@ static int within(const recording *r) {
     return below(r->sample[0], r->size[0], r->alphabet) && below(r->sample[1], r->size[1], r->alphabet);
 }
 
+static size_t length_of(const recording *r) {
+    return 4 + (r->size[0] >= 128) + (r->size[1] >= 128) + r->size[0] + r->size[1];
+}
+
 uint32_t plain_write(const recording *r, uint8_t *file, size_t room, size_t *written) {
     if (!within(r)) return OUTSIDE;
-    size_t length = 4 + (r->size[0] >= 128) + (r->size[1] >= 128) + r->size[0] + r->size[1];
-    if (length > room) return SHORT;
+    if (length_of(r) > room) return SHORT;
     *written = plain_file(r, file);
+    return 0;
+}
+
+// The bytes that are still to be read.
+typedef struct {
+    const uint8_t *at, *end;
+} rest;
+
+static uint32_t take_number(rest *from, uint32_t least, uint32_t most, uint32_t *number) {
+    if (from->at == from->end) return EARLY;
+    *number = *from->at++;
+    if (*number >= 128) {
+        if (from->at == from->end) return EARLY;
+        uint32_t group = *from->at++;
+        if (group == 0 || group >= 128) return LONGER;
+        *number += 128 * group - 128;
+    }
+    return *number < least || *number > most ? OUTSIDE : 0;
+}
+
+static uint32_t take_header(rest *from, uint32_t header[4]) {
+    static const uint32_t least[4] = {2, 0, 0, 0}, most[4] = {8, DEEPEST, LONGEST, LONGEST};
+    uint32_t why = 0;
+    for (int i = 0; i < 4 && !why; i++) why = take_number(from, least[i], most[i], &header[i]);
+    return why;
+}
+
+// Takes a sample's bytes as far as they exist, and keeps those before the first that is no symbol.
+static void take_sample(rest *from, size_t wanted, recording *r, int which, uint64_t lost[2]) {
+    size_t there = from->end - from->at, kept = 0;
+    if (there > wanted) there = wanted;
+    while (kept < there && from->at[kept] < r->alphabet) kept++;
+    r->sample[which] = from->at;
+    r->size[which] = kept;
+    lost[0] = wanted - there, lost[1] = there - kept;
+    from->at += there;
+}
+
+uint32_t plain_salvage(const uint8_t *damaged, size_t many, uint8_t *file, size_t room, size_t *written, uint64_t told[5]) {
+    rest from = {damaged, damaged + many};
+    uint32_t header[4], why = take_header(&from, header);
+    if (why) return why;
+    recording r = {.alphabet = header[0], .depth = header[1]};
+    uint64_t lost[5];
+    for (int i = 0; i < 2; i++) take_sample(&from, header[2 + i], &r, i, &lost[2 * i]);
+    if (length_of(&r) > room) return SHORT;
+    lost[4] = from.end - from.at;
+    *written = plain_file(&r, file);
+    memcpy(told, lost, sizeof lost);
     return 0;
 }

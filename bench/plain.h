@@ -1,4 +1,5 @@
-// The same sittings in plain C: a trie in an array, and the report by recursion over it. Nothing is checked, but by plain_write.
+// The same sittings in plain C: a trie in an array, and the report by recursion over it. Nothing is checked, but by plain_write
+// and plain_salvage.
 #pragma once
 #include <stddef.h>
 #include <stdint.h>
@@ -35,5 +36,8 @@ size_t plain_file(const recording *r, uint8_t *file);
 // The same after the library's checks: 15 where the alphabet, the depth, a length or any symbol is outside its limits, else 19
 // where the file has more than `room` bytes. Answers 0 where it is written.
 uint32_t plain_write(const recording *r, uint8_t *file, size_t room, size_t *written);
+// Writes the file of what can be kept of a damaged one, after the library's checks: 13 to 15 for the header, else 19. `told` gets what is
+// missing and dropped of each sample, and what is cut off. Answers 0 where it is written.
+uint32_t plain_salvage(const uint8_t *damaged, size_t many, uint8_t *file, size_t room, size_t *written, uint64_t told[5]);
 // Computes the logarithms. To be called once.
 void plain_logarithms(void);

@@ -50,12 +50,13 @@ extern "C" {
 #define SOBUMIKEYO_SAMPLE_EMPTY 11     /* a report while either sample is empty */
 #define SOBUMIKEYO_SHEET_SHORT 12      /* the rows do not fit the sheet from that place on */
 
-/* The refusals of sitting files; of a file that is read, the first fault from the left. */
+/* The refusals of sitting files; of a file that is read or salvaged, the first fault from the left. */
+/* A salvage gets 13 to 15 for the four numbers of the header alone, and never 16. */
 #define SOBUMIKEYO_ENDS_EARLY 13       /* the file ends before its last number does */
 #define SOBUMIKEYO_NOT_SHORTEST 14     /* a number is not in its shortest form */
 #define SOBUMIKEYO_FILE_OUTSIDE 15     /* a number, read or to be written, is outside its limits */
 #define SOBUMIKEYO_BYTES_LEFT 16       /* there are bytes after the last symbol */
-#define SOBUMIKEYO_BUFFER_SHORT 19     /* fewer bytes are lent than the file to be written has */
+#define SOBUMIKEYO_BUFFER_SHORT 19     /* fewer bytes are lent than the file to be written or saved has */
 
 /* The refusals of a making. */
 #define SOBUMIKEYO_ROOM_OUTSIDE 17     /* room not 1 to 4096 */
@@ -68,6 +69,7 @@ extern "C" {
 #define SOBUMIKEYO_ROW_WIDTH 11
 
 /* How many bytes are enough for the file of two samples of so many symbols, whatever they are. */
+/* For a salvage as many as the damaged file has are enough. */
 #define SOBUMIKEYO_FILE_ROOM(first_len, second_len) ((size_t)6 + (first_len) + (second_len))
 
 /* Makes a store for `room` contexts, whatever the numbers are. No desk is open. */
@@ -110,6 +112,15 @@ uint32_t sobumikeyo_read(const uint8_t *file, size_t file_len, uint32_t shape[4]
 /* `written` is the file's length, and the bytes from there on stay. sobumikeyo_read reads the same sitting back. */
 /* Refusals 15 and 19: a value that a file may not have goes before bytes that are too few. */
 uint32_t sobumikeyo_write(const uint8_t *first, size_t first_len, const uint8_t *second, size_t second_len, uint32_t alphabet, uint32_t depth, uint8_t *file, size_t file_len, size_t *written);
+
+/* Salvages a damaged sitting file: from the beginning of `file` on, writes the valid file of what can be kept. */
+/* Each sample takes its next n or m bytes as far as they exist; the others are missing. It keeps those before the first that is */
+/* not below the alphabet; the others are dropped. Bytes after both samples are cut off. A sound file comes out the same. */
+/* `told` gets how many are missing and dropped of the first sample, missing and dropped of the second, and cut off. */
+/* `written` is the saved file's length, never above `damaged_len`, and the bytes from there on stay. sobumikeyo_read accepts it. */
+/* Refusals 13 to 15 where the header cannot be read within limits, as sobumikeyo_read says; then 19. */
+/* Nothing is saved in place: `file` may overlap `damaged` as little as any other argument. */
+uint32_t sobumikeyo_salvage(const uint8_t *damaged, size_t damaged_len, uint8_t *file, size_t file_len, size_t *written, uint64_t told[5]);
 
 /* Whether the numbers are a store: those that refusal 1 is not given for. Every store that calls have left is one. */
 bool sobumikeyo_sound(const uint32_t *store, size_t store_len);

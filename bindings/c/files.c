@@ -1,5 +1,5 @@
-// Sitting files from C, by the header: refused calls leave what is lent, document 01's example is written, and it reads back.
-// Answers 0 where all is so.
+// Sitting files from C, by the header: refused calls leave what is lent, document 01's example is written, and it reads back. Spoilt
+// and cut it is salvaged, and reads back too. Answers 0 where all is so.
 #include "sobumikeyo.h"
 #include <stdio.h>
 #include <string.h>
@@ -8,8 +8,13 @@ enum { LENGTH = 20, ROOM = SOBUMIKEYO_FILE_ROOM(8, 8), BLANK = 0xee, UNTOLD = 77
 
 static const uint8_t learner[8] = {0, 1, 0, 1, 0, 1, 0, 1}, reference[8] = {0, 0, 1, 0, 0, 1, 0, 0};
 static const uint8_t header[4] = {2, 1, 8, 8};
+// The learner's seventh act spoilt and the reference's last three missing, and what is saved.
+static const uint8_t damaged[17] = {2, 1, 8, 8, 0, 1, 0, 1, 0, 1, 2, 1, 0, 0, 1, 0, 0};
+static const uint8_t saved[15] = {2, 1, 6, 5, 0, 1, 0, 1, 0, 1, 0, 0, 1, 0, 0};
+static const uint64_t lost[5] = {0, 2, 3, 0, 0}, untold[5] = {UNTOLD, UNTOLD, UNTOLD, UNTOLD, UNTOLD};
 static uint8_t file[ROOM], untouched[ROOM];
-static size_t written = UNTOLD;
+static size_t written;
+static uint64_t told[5];
 
 static uint32_t write_in(uint32_t alphabet, size_t room) {
     return sobumikeyo_write(learner, 8, reference, 8, alphabet, 1, file, room, &written);
@@ -20,18 +25,47 @@ static int wrong(const char *what) {
     return 1;
 }
 
-int main(void) {
-    uint32_t shape[4];
+static void lend(void) {
     memset(file, BLANK, ROOM);
     memset(untouched, BLANK, ROOM);
+    written = UNTOLD;
+    memcpy(told, untold, sizeof told);
+}
+
+// What stands in the file from its beginning on reads back as a sitting of that header.
+static int reads_back(const uint8_t *expected) {
+    uint32_t shape[4];
+    if (sobumikeyo_read(file, written, shape)) return 0;
+    for (int i = 0; i < 4; i++)
+        if (shape[i] != expected[i]) return 0;
+    return 1;
+}
+
+static int writing(void) {
+    lend();
     if (write_in(1, 0) != SOBUMIKEYO_FILE_OUTSIDE) return wrong("bad values get 15 before a short buffer gets 19");
     if (write_in(2, LENGTH - 1) != SOBUMIKEYO_BUFFER_SHORT) return wrong("a short buffer gets 19");
     if (written != UNTOLD || memcmp(file, untouched, ROOM)) return wrong("a refused call writes nothing");
     if (write_in(2, ROOM) || written != LENGTH) return wrong("the file is written, and its length told");
     if (memcmp(file, header, 4) || memcmp(file + 4, learner, 8) || memcmp(file + 12, reference, 8)) return wrong("the bytes are those of the file");
     if (memcmp(file + LENGTH, untouched, ROOM - LENGTH)) return wrong("bytes past the end stay");
-    if (sobumikeyo_read(file, written, shape)) return wrong("what is written is accepted");
-    for (int i = 0; i < 4; i++)
-        if (shape[i] != header[i]) return wrong("what is written reads back as the same sitting");
+    if (!reads_back(header)) return wrong("what is written reads back as the same sitting");
     return 0;
 }
+
+static uint32_t salvage_in(size_t length, size_t room) { return sobumikeyo_salvage(damaged, length, file, room, &written, told); }
+
+static int salvaging(void) {
+    lend();
+    if (salvage_in(3, 0) != SOBUMIKEYO_ENDS_EARLY) return wrong("a header that ends gets 13 before a short buffer gets 19");
+    if (salvage_in(sizeof damaged, sizeof saved - 1) != SOBUMIKEYO_BUFFER_SHORT) return wrong("a short buffer gets 19");
+    if (written != UNTOLD || memcmp(told, untold, sizeof told) || memcmp(file, untouched, ROOM)) return wrong("a refused salvage writes nothing");
+    if (salvage_in(sizeof damaged, sizeof damaged) || written != sizeof saved) return wrong("the file is saved, and its length told");
+    if (memcmp(file, saved, sizeof saved)) return wrong("the bytes are those of what is kept");
+    if (memcmp(file + sizeof saved, untouched, ROOM - sizeof saved)) return wrong("bytes past the end of the saved file stay");
+    if (memcmp(told, lost, sizeof told)) return wrong("what is missing, dropped and cut off is told");
+    if (!reads_back(saved)) return wrong("what is saved reads back");
+    return 0;
+}
+
+int main(void) { return writing() || salvaging(); }

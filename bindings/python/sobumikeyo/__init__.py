@@ -22,7 +22,7 @@ is proved; what they promise is in docs/PROMISES.md.
 """
 
 from sobumikeyo.charts import Chart
-from sobumikeyo.files import SittingFile, read, write
+from sobumikeyo.files import Lost, Salvaged, SittingFile, read, salvage, write
 from sobumikeyo.refusals import Refusal, Stopped
 from sobumikeyo.reports import ROW_WIDTH, Context, Kind, Report, Row
 from sobumikeyo.store import Sample, Store, store_size
@@ -32,14 +32,17 @@ __all__ = [
     "Chart",
     "Context",
     "Kind",
+    "Lost",
     "Refusal",
     "Report",
     "Row",
+    "Salvaged",
     "Sample",
     "SittingFile",
     "Stopped",
     "Store",
     "read",
+    "salvage",
     "store_size",
     "write",
 ]

@@ -2,7 +2,7 @@
 
 import ctypes
 import os
-from ctypes import POINTER, c_bool, c_double, c_int64, c_size_t, c_uint8, c_uint32
+from ctypes import POINTER, c_bool, c_double, c_int64, c_size_t, c_uint8, c_uint32, c_uint64
 from functools import cache
 from pathlib import Path
 
@@ -25,6 +25,7 @@ FUNCTIONS = {
     "chart": (c_uint32, STORE + 4 * NUMBERS + OUT + 3 * [POINTER(c_double)]),
     "read": (c_uint32, BYTES + [POINTER(c_uint32 * 4)]),
     "write": (c_uint32, 2 * BYTES + 2 * NUMBERS + BYTES + [POINTER(c_size_t)]),
+    "salvage": (c_uint32, 2 * BYTES + [POINTER(c_size_t), POINTER(c_uint64 * 5)]),
     "sound": (c_bool, STORE),
 }
 

@@ -107,19 +107,22 @@ WORDS = {
     ),
     13: (
         "The file ends too early.",
-        "See that all of it was copied, and that it has as many symbols as its header says.",
+        "See that all of it was copied, and that it has as many symbols as its header says. "
+        "Where the header is whole, a salvage keeps what is there.",
     ),
     14: (
         "A number in the file is not in its shortest form.",
-        "Write it in as few bytes as it needs, which is never more than two.",
+        "Write it in as few bytes as it needs, which is never more than two. "
+        "If it is a symbol, a salvage keeps its sample up to it.",
     ),
     15: (
         "A number of the file, read or to be written, is outside its limits.",
-        "Keep the alphabet from 2 to 8, the depth to 6, each length to 512, and each symbol below the alphabet's size.",
+        "Keep the alphabet from 2 to 8, the depth to 6, each length to 512, and each symbol below the alphabet's size. "
+        "If it is a symbol in a file, a salvage keeps its sample up to it.",
     ),
     16: (
         "The file goes on after its last symbol.",
-        "Take the last bytes away, or correct the lengths in its header.",
+        "Take the last bytes away, as a salvage does, or correct the lengths in its header.",
     ),
     17: (
         "The room asked for is outside its limits.",
@@ -130,7 +133,7 @@ WORDS = {
         "Lend at least 2,048 numbers and 24 more for each context of its room.",
     ),
     19: (
-        "The bytes lent are fewer than the file has.",
-        "Lend as many bytes as the two samples have symbols and 6 more.",
+        "The bytes lent are fewer than the file to be written or saved has.",
+        "Lend as many bytes as the two samples have symbols and 6 more; for a salvage, as many as the damaged file has.",
     ),
 }

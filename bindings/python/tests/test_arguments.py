@@ -5,7 +5,7 @@ from array import array
 from io import BytesIO, StringIO
 from pathlib import Path
 
-from sobumikeyo import ROW_WIDTH, Context, Refusal, Sample, Store, read, store_size, write
+from sobumikeyo import ROW_WIDTH, Context, Refusal, Sample, Store, read, salvage, store_size, write
 
 EMPTY = Context.of([])
 SHEET = array("I", [0] * ROW_WIDTH * 8)
@@ -107,10 +107,11 @@ class Arguments(unittest.TestCase):
         self.wrong(ValueError, r"numbers\[1\] must be a whole number from 0 to 4294967295, ", Store.of_numbers, [7, 2**32])
 
     def test_files(self):
-        for value in NO_RUNS:
-            self.wrong(TypeError, "file must be bytes or whole numbers in a row, not ", read, value)
-        self.wrong(TypeError, r"file\[0\] must be a whole number, not a value of type str", read, ["2"])
-        self.wrong(ValueError, r"file\[1\] must be a whole number from 0 to 255, not 256", read, [2, 256])
+        for call, name in ((read, "file"), (salvage, "damaged")):
+            for value in NO_RUNS:
+                self.wrong(TypeError, f"{name} must be bytes or whole numbers in a row, not ", call, value)
+            self.wrong(TypeError, rf"{name}\[0\] must be a whole number, not a value of type str", call, ["2"])
+            self.wrong(ValueError, rf"{name}\[1\] must be a whole number from 0 to 255, not 256", call, [2, 256])
 
     def test_files_to_be_written(self):
         def wrong(kind, words, name, value):

@@ -10,19 +10,24 @@ from random import Random
 from play import answers
 from reference.answers import Refused
 from reference.built import BuiltProgram, BuiltScripts
-from reference.inputs import damaged_file, drawn_file, drawn_room, drawn_values, fixed_files
+from reference.inputs import damaged_file, drawn_file, drawn_room, drawn_values, every_cut, file_to_salvage
+from reference.inputs import fixed_damages, fixed_files, spoilt_at
 from reference.limits import SAMPLE_LIMIT
+from reference.salvage import salvage as salvage_into
 from reference.sitting_file import write as file_of
 from reference.sitting_file import write_into
 from sitting import output
-from sobumikeyo import Refusal, read, write
+from sobumikeyo import Lost, Refusal, Salvaged, read, salvage, write
 
-from tests.test_files import AFTER, UNTOLD, blank, told
+from tests.test_files import AFTER, NONE_TOLD, NOTHING, UNTOLD, blank, told, told_salvage
 
 ROUNDS = 2
 FILES_A_ROUND = 100
 WRITTEN = 500
+SALVAGED = 1000
 LONGEST_FILE = 6 + 2 * SAMPLE_LIMIT
+# Files with lengths of one group and of two.
+WHOLE = [file_of(2, 1, (0, 1) * 4, (0, 0, 1) * 3), file_of(3, 2, (2,), (0, 1) * 64)]
 
 
 class Scripts(BuiltScripts):
@@ -119,6 +124,61 @@ class WrittenFiles(unittest.TestCase):
                 self.assertEqual(write(sitting.first, sitting.second, sitting.alphabet, sitting.depth), file, file.hex(" "))
                 accepted += 1
         self.assertGreater(accepted, WRITTEN)
+
+
+def reference_salvaged(damaged):
+    """The file that the second program saves, and what is lost, or its refusal."""
+    buffer = bytearray(LONGEST_FILE)
+    answer = salvage_into(damaged, buffer)
+    return answer if isinstance(answer, Refused) else (bytes(buffer[: answer.length]), answer.lost)
+
+
+def reference_told_salvage(damaged, room):
+    """The same as `told_salvage` of the second program."""
+    buffer = bytearray(blank(room))
+    answer = salvage_into(damaged, buffer)
+    number, length, lost = (answer.number, UNTOLD, NONE_TOLD) if isinstance(answer, Refused) else (0, *answer)
+    return number, bytes(buffer), blank(AFTER), length, lost
+
+
+class SalvagedFiles(unittest.TestCase):
+    def compare(self, damaged):
+        """The same file saved and the same losses, or the same refusal; what is saved is read without a fault."""
+        salvaged = answer_of(salvage, damaged)
+        self.assertEqual(salvaged, reference_salvaged(damaged), damaged.hex(" "))
+        if not isinstance(salvaged, Refused):
+            read(salvaged.file)
+        return salvaged
+
+    def test_every_cut(self):
+        for file in WHOLE:
+            *cuts, sound = map(self.compare, every_cut(file))
+            self.assertLess({Refused(13)}, set(cuts))
+            self.assertEqual(sound, (file, NOTHING), "a sound file comes out the same")
+
+    def test_every_spoilt_byte(self):
+        """Each byte in turn has all 256 values."""
+        for file in WHOLE:
+            answers = {self.compare(spoilt_at(file, place, byte)) for place in range(len(file)) for byte in range(256)}
+            self.assertLess({Refused(14), Refused(15), (file, NOTHING)}, answers)
+
+    def test_fixed_files(self):
+        self.assertEqual({type(self.compare(damaged)) for damaged in fixed_damages()}, {Refused, Salvaged})
+
+    def test_drawn_bytes_lent(self):
+        """The call itself, with drawn numbers of bytes lent: the same number, bytes, length and five numbers."""
+        tally = Counter()
+        for place in range(SALVAGED):
+            random = Random(f"salvage {place}")
+            damaged = file_to_salvage(random)
+            salvaged = self.compare(damaged)
+            room = drawn_room(random, damaged if isinstance(salvaged, Refused) else salvaged.file)
+            answer = told_salvage(damaged, room)
+            self.assertEqual(answer, reference_told_salvage(damaged, room), f"salvage {place}")
+            number, *_, lost = answer
+            tally.update([number] if number else [name for name, many in zip(Lost._fields, lost) if many])
+        self.assertEqual(set(tally), {13, 14, 15, 19, *Lost._fields})
+        self.assertGreater(min(tally.values()), SALVAGED // 200, "every refusal is drawn, and every loss")
 
 
 if __name__ == "__main__":

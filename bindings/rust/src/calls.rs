@@ -1,4 +1,4 @@
-//! The C functions, as `include/sobumikeyo.h` has them. They are called in `store` and `file` alone, each slice with its own length.
+//! The C functions, as `include/sobumikeyo.h` has them. They are called in `store`, `file` and `salvage` alone, each slice with its own length.
 
 extern "C" {
     pub fn sobumikeyo_make(store: *mut u32, store_len: usize, room: u32) -> u32;
@@ -48,6 +48,14 @@ extern "C" {
         file: *mut u8,
         file_len: usize,
         written: *mut usize,
+    ) -> u32;
+    pub fn sobumikeyo_salvage(
+        damaged: *const u8,
+        damaged_len: usize,
+        file: *mut u8,
+        file_len: usize,
+        written: *mut usize,
+        told: *mut [u64; 5],
     ) -> u32;
     pub fn sobumikeyo_sound(store: *const u32, store_len: usize) -> bool;
 }

@@ -29,10 +29,12 @@ mod chart;
 mod file;
 mod refusal;
 mod report;
+mod salvage;
 mod store;
 
 pub use chart::{Chart, Point};
 pub use file::{read, write, SittingFile};
 pub use refusal::{Refusal, Stopped};
 pub use report::{Context, Kind, Report, Row, ROW_WIDTH};
+pub use salvage::{salvage, Lost, Salvaged};
 pub use store::{store_size, Desk, Sample, Store};
