@@ -7,7 +7,7 @@ use mathlib.Core.List.{List}
 use lib.ListN.{length, take}
 use lib.Seq.{take-all}
 use Rattle.sitting_file.specs.Format.{readOf}
-use Rattle.sitting_file.specs.Input.{inputBytes, ReadInto}
+use Rattle.sitting_file.specs.Input.{inputBytes}
 use Rattle.sitting_file.specs.declared.Reading.{Reading}
 use Rattle.sitting_file.proofs.InputRead.{first-read, bytes-judged}
 use Rattle.sitting_file.proofs.LongInput.{input-judged}

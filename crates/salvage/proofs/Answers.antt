@@ -3,13 +3,12 @@ use Prim.Native.Nat.{ℕ, _+_, _-_, _≤_, _<_}
 use native.Mathlib.Decide.{decLe}
 use native.Mathlib.Omega.{arith}
 use mathlib.Core.Path.{_≡_, refl, sym, ap, ap₂, subst, _∙_}
-use mathlib.Core.List.{List, [], _++_}
-use lib.ListN.{length, take, drop, length-append, length-take, length-drop}
-use lib.Seq.{take-at, drop-drop}
+use mathlib.Core.List.{List, _++_}
+use lib.ListN.{length, take, drop, length-append, length-take}
+use lib.Seq.{take-at}
 use borrow.Author.Tests.{lt-ltb, le-ltb}
-use Rattle.numbers.specs.Limits.{longest}
 use Rattle.replay.specs.Table.{Outcome, refused, answered, verdictOf}
-use Rattle.replay.proofs.Tables.{no-refusal, answer-same, number-same}
+use Rattle.replay.proofs.Tables.{no-refusal, answer-same}
 use Rattle.sitting_file.specs.Format.{headerOf}
 use Rattle.sitting_file.specs.Format as format
 use Rattle.sitting_file.specs.declared.Shape.{Shape}
@@ -17,14 +16,13 @@ use Rattle.sitting_file.specs.declared.Heading.{Heading}
 use Rattle.sitting_file.specs.declared.Heading.the-variants.{Whole, Faulty}
 use Rattle.sitting_file.specs.declared.Refusal as file
 use Rattle.sitting_file.proofs.Stages.{header-read}
-use Rattle.writing.specs.Writing.{fileOf, writingOutcome, WritesFile}
+use Rattle.writing.specs.Writing.{writingOutcome, WritesFile}
 use Rattle.writing.specs.Writing as writing
 use Rattle.writing.specs.declared.Writing.{Writing}
 use Rattle.writing.specs.declared.Writing.the-variants as writer
 use Rattle.writing.proofs.Good.{Good}
 use Rattle.writing.proofs.Answers.{good-answers, good-short, accepted}
-use Rattle.salvage.specs.Salvage.{firstBytes, secondBytes, keptBytes, firstKept, secondKept, goneOf, cutOff, lostOf, Saved, savedOf, salvageOf, toldBy, salvageOutcome, Within, Salvages}
-use Rattle.salvage.specs.declared.Gone.{Gone}
+use Rattle.salvage.specs.Salvage.{firstBytes, secondBytes, firstKept, secondKept, Saved, savedOf, salvageOf, toldBy, salvageOutcome, Within, Salvages}
 use Rattle.salvage.specs.declared.Lost.{Lost}
 use Rattle.salvage.proofs.Keeping.{kept-begins, kept-fits}
 
@@ -123,31 +121,3 @@ module _ (damaged : List ℕ) (shape : Shape) (at : ℕ) (whole : headerOf damag
     saved-by (writer.Length size) lost e w =
         (subst (λ (l : Lost). Salvages damaged before (answered (record { file = take size after; lost = l })) after) (sym e) (file-saved size w), fits size w)
     saved-by (writer.Refused why) lost e w = (none-saved (writing.refusalNumber why) w, tt)
-
--- ---- as the code has it
-
-module _ (damaged : List ℕ) (shape : Shape) (at : ℕ) where
-  -- the second sample's bytes start n bytes after the header
-  pub second-part : take (shape .second) (drop (at + shape .first) damaged) ≡ secondBytes shape (drop at damaged)
-  second-part = ap (take (shape .second)) (sym (drop-drop (shape .first) at damaged))
-
-  abbrev A : ℕ
-  A = shape .alphabet
-
-  -- what is told of a sample, by bytes and kept ones that are the same
-  pub gone-told : (g : Gone) (wanted : ℕ) (bytes xs kept : List ℕ) → xs ≡ bytes → kept ≡ keptBytes A bytes
-      → (g .missing ≡ wanted - length xs) × (g .dropped ≡ length xs - length kept) → g ≡ goneOf A wanted bytes
-  gone-told g wanted bytes xs kept e f t =
-      ap₂ (λ (m d : ℕ). record { missing = m; dropped = d }) (t .0 ∙ ap (λ (l : List ℕ). wanted - length l) e) (t .1 ∙ ap₂ (λ (l k : List ℕ). length l - length k) e f)
-
-  pub lost-told : (g h : Gone) (cut : ℕ) → g ≡ goneOf A (shape .first) (firstBytes shape (drop at damaged)) → h ≡ goneOf A (shape .second) (secondBytes shape (drop at damaged))
-      → cut ≡ length damaged - (at + shape .first + shape .second) → record { first = g; second = h; cut = cut } ≡ lostOf shape (drop at damaged)
-  lost-told g h cut d e f =
-      let c : cut ≡ cutOff shape (drop at damaged) = omega (arith, f, length-drop (shape .first + shape .second) (drop at damaged), length-drop at damaged) in
-      ap₂ (λ (x y : Gone). record { first = x; second = y; cut = cut }) d e ∙ ap (λ (k : ℕ). record { first = goneOf A (shape .first) (firstBytes shape (drop at damaged)); second = goneOf A (shape .second) (secondBytes shape (drop at damaged)); cut = k }) c
-
-  -- what was written of the same bytes
-  pub same-written : (xs ys before after : List ℕ) (o : Outcome ℕ) → xs ≡ firstKept shape (drop at damaged) → ys ≡ secondKept shape (drop at damaged)
-      → WritesFile A (shape .depth) xs ys before o after → WritesFile A (shape .depth) (firstKept shape (drop at damaged)) (secondKept shape (drop at damaged)) before o after
-  same-written xs ys before after o d e w =
-      subst (λ (l : List ℕ). WritesFile A (shape .depth) (firstKept shape (drop at damaged)) l before o after) e (subst (λ (l : List ℕ). WritesFile A (shape .depth) l ys before o after) d w)

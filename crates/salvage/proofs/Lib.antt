@@ -1,4 +1,5 @@
 pub mod Keeping
+pub mod Parts
 pub mod Answers
 pub mod Saving
 pub mod Refusing

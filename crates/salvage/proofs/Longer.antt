@@ -1,13 +1,13 @@
 -- A file and its first 2,048 bytes differ in what is cut off alone: header and samples end within them. Assumes nothing.
 use Prim.Native.Nat.{ℕ, zero, suc, _+_, _-_, _≤_}
 use native.Mathlib.Omega.{arith}
-use mathlib.Core.Path.{_≡_, refl, sym, ap, ap₂, _∙_}
+use mathlib.Core.Path.{_≡_, refl, sym, ap, _∙_}
 use mathlib.Core.Bool.{Bool, true, false, cond}
 use mathlib.Core.List.{List, [], _∷_}
 use lib.Dec.{ltb}
 use lib.ListN.{length, take, drop, length-drop}
 use lib.Seq.{take-take, drop-drop, length-take-le}
-use Rattle.replay.specs.Table.{Outcome, refused, answered, verdictOf}
+use Rattle.replay.specs.Table.{refused, answered, verdictOf}
 use Rattle.sitting_file.specs.Format.{headerOf}
 use Rattle.sitting_file.specs.Input.{inputBytes}
 use Rattle.sitting_file.specs.Samples.{longestFile}
@@ -16,9 +16,9 @@ use Rattle.sitting_file.specs.declared.Heading.{Heading}
 use Rattle.sitting_file.specs.declared.Heading.the-variants.{Whole, Faulty}
 use Rattle.sitting_file.proofs.LongInput.{same-header}
 use Rattle.sitting_file.proofs.Stages.{header-read}
-use Rattle.writing.specs.Writing.{fileOf}
-use Rattle.salvage.specs.Salvage.{firstBytes, secondBytes, keptBytes, goneOf, cutOff, Saved, savedOf, salvageOf}
+use Rattle.salvage.specs.Salvage.{firstBytes, secondBytes, cutOff, Saved, savedOf, salvageOf}
 use Rattle.salvage.specs.Saving.{cutMore, FirstBytesSave}
+use Rattle.salvage.proofs.Parts.{savedFrom, saved-same}
 
 -- bytes that end before a cut are as they were
 before-cut : (n from bytes : ℕ) (l : List ℕ) → from + n ≤ bytes → take n (drop from (take bytes l)) ≡ take n (drop from l)
@@ -50,21 +50,18 @@ module _ (damaged : List ℕ) (bytes : ℕ) (long : longestFile ≤ bytes) (insi
         let k = shape .first + shape .second in
         omega (arith, ends, inside, length-drop k (drop at part), length-drop at part, length-take-le bytes damaged inside, length-drop k (drop at damaged), length-drop at damaged)
 
-    -- what is saved, by the samples' bytes and how many are cut off
-    abbrev savedFrom : List ℕ → List ℕ → ℕ → Saved
-    savedFrom us vs cut = record {
-      file = fileOf (shape .alphabet) (shape .depth) (keptBytes (shape .alphabet) us) (keptBytes (shape .alphabet) vs);
-      lost = record { first = goneOf (shape .alphabet) (shape .first) us; second = goneOf (shape .alphabet) (shape .second) vs; cut = cut };
-    }
+    -- what is saved of the whole, by the bytes of the part
+    abbrev more : Saved
+    more = savedFrom shape (firstBytes shape (drop at part)) (secondBytes shape (drop at part)) (cutOff shape (drop at part) + beyond)
 
-    saved-more : savedFrom (firstBytes shape (drop at part)) (secondBytes shape (drop at part)) (cutOff shape (drop at part) + beyond) ≡ savedOf shape (drop at damaged)
-    saved-more = ap₂ (λ (us vs : List ℕ). savedFrom us vs (cutOff shape (drop at part) + beyond)) first-same second-same ∙ ap (savedFrom (firstBytes shape (drop at damaged)) (secondBytes shape (drop at damaged))) cut-more
+    saved-more : savedOf shape (drop at damaged) ≡ more
+    saved-more = saved-same shape (drop at damaged) _ _ _ (sym first-same) (sym second-same) (sym cut-more)
 
     answer-more : (room : ℕ) → salvageOf (Whole shape at) damaged room ≡ cutMore beyond (salvageOf (Whole shape at) part room)
     unfolding salvageOf verdictOf
-    answer-more room = ap (λ (s : Saved). cond (ltb room (length (s .file))) (refused 19) (answered s)) (sym saved-more) ∙ by (ltb room (length (savedOf shape (drop at part) .file)))
+    answer-more room = ap (λ (s : Saved). cond (ltb room (length (s .file))) (refused 19) (answered s)) saved-more ∙ by (ltb room (length (savedOf shape (drop at part) .file)))
       where
-        by : (t : Bool) → cond t (refused 19) (answered (savedFrom (firstBytes shape (drop at part)) (secondBytes shape (drop at part)) (cutOff shape (drop at part) + beyond))) ≡ cutMore beyond (cond t (refused 19) (answered (savedOf shape (drop at part))))
+        by : (t : Bool) → cond t (refused 19) (answered more) ≡ cutMore beyond (cond t (refused 19) (answered (savedOf shape (drop at part))))
         by true = refl
         by false = refl
 

@@ -1,5 +1,5 @@
 -- A salvage is refused as the reader refuses the file, never with 16, or for too few bytes; as many as the damaged file has are enough. Assumes nothing.
-use Prim.Native.Nat.{ℕ, _+_, _≤_, _<_}
+use Prim.Native.Nat.{ℕ, _+_, _≤_}
 use native.Mathlib.Decide.{decLt}
 use native.Mathlib.Omega.{arith}
 use mathlib.Core.Path.{_≡_, refl, sym, ap, _∙_}
@@ -8,11 +8,11 @@ use mathlib.Core.Bool.{Bool, true, false, cond}
 use mathlib.Core.List.{List, []}
 use lib.Dec.{ltb}
 use lib.ListN.{length, drop, length-append, length-take, length-drop}
-use Rattle.replay.specs.Table.{Outcome, refused, answered, verdictOf}
+use Rattle.replay.specs.Table.{refused, answered, verdictOf}
 use Rattle.replay.proofs.Tables.{no-refusal, number-same}
 use Rattle.sitting_file.specs.Format.{highBit, headerOf, bodyOf}
 use Rattle.sitting_file.specs.Format as format
-use Rattle.sitting_file.specs.Verdict.{Bytes, shortest, written, withHeader}
+use Rattle.sitting_file.specs.Verdict.{Bytes, shortest}
 use Rattle.sitting_file.specs.declared.Shape.{Shape}
 use Rattle.sitting_file.specs.declared.Refusal.{Refusal}
 use Rattle.sitting_file.specs.declared.Refusal.the-variants.{EndsEarly, NotShortest, OutsideLimits, BytesLeft}
@@ -21,7 +21,7 @@ use Rattle.sitting_file.specs.declared.Heading.the-variants.{Whole, Faulty}
 use Rattle.sitting_file.proofs.AnswerTrue.{header-place}
 use Rattle.sitting_file.proofs.Stages.{header-fault, header-read}
 use Rattle.writing.proofs.Sizes.{one-long, two-long, at-most-two, file-long}
-use Rattle.salvage.specs.Salvage.{firstBytes, secondBytes, firstKept, secondKept, Saved, savedOf, salvageLines, salvageOf, Salvages}
+use Rattle.salvage.specs.Salvage.{firstBytes, secondBytes, firstKept, secondKept, Saved, savedOf, salvageLines, salvageOf}
 use Rattle.salvage.specs.Saving.{nothingLost, ReadersOr19, AsTheReader, NeverLonger}
 use Rattle.salvage.proofs.Keeping.{kept-fits}
 use Rattle.salvage.proofs.Answers.{kept-good, saved-answers}

@@ -2,10 +2,10 @@
 use Prim.Native.Nat.{ℕ, _+_, _-_, _≤_}
 use native.Mathlib.Omega.{arith}
 use mathlib.Core.Path.{_≡_, refl, sym, ap, subst, _∙_}
-use mathlib.Core.List.{List, _++_}
-use lib.ListN.{length, take, drop, length-append, length-take, length-drop}
+use mathlib.Core.List.{List}
+use lib.ListN.{length, take, drop, length-take, length-drop}
 use lib.Seq.{take-at}
-use Rattle.replay.specs.Table.{answered, verdictOf}
+use Rattle.replay.specs.Table.{answered}
 use Rattle.replay.proofs.Tables.{no-refusal, answers-none}
 use Rattle.sitting_file.specs.Format.{headerOf}
 use Rattle.sitting_file.specs.declared.Shape.{Shape}
@@ -14,7 +14,7 @@ use Rattle.sitting_file.specs.declared.Heading.the-variants.{Whole, Faulty}
 use Rattle.sitting_file.proofs.Stages.{header-read}
 use Rattle.writing.specs.RoundTrips.{ReadsAs}
 use Rattle.writing.proofs.RoundTrip.{file-reads}
-use Rattle.salvage.specs.Salvage.{firstBytes, secondBytes, keptBytes, firstKept, secondKept, cutOff, Saved, savedOf, salvageLines, salvageOf, Salvages}
+use Rattle.salvage.specs.Salvage.{firstBytes, secondBytes, keptBytes, cutOff, Saved, savedOf, salvageLines, salvageOf}
 use Rattle.salvage.specs.Saving.{Saves, EachSaves}
 use Rattle.salvage.proofs.Keeping.{kept-begins, kept-fits}
 use Rattle.salvage.proofs.Answers.{kept-good}

@@ -1,11 +1,11 @@
 -- "A sound file comes out the same, with zeros": its samples are below A, so all of their bytes are kept. Assumes nothing.
-use Prim.Native.Nat.{ℕ, _+_, _-_, _≤_}
+use Prim.Native.Nat.{ℕ, _+_, _-_}
 use native.Mathlib.Omega.{arith}
 use mathlib.Core.Path.{_≡_, refl, sym, ap, ap₂, _∙_}
 use mathlib.Core.List.{List, [], _++_, append-nil}
 use lib.ListN.{length, take, drop, length-append, length-drop}
 use lib.Seq.{take-at, drop-at, take-all}
-use Rattle.replay.specs.Table.{Outcome, answered}
+use Rattle.replay.specs.Table.{answered}
 use Rattle.sitting_file.specs.Format.{headerOf, readOf}
 use Rattle.sitting_file.specs.Samples.{firstOf, secondOf}
 use Rattle.sitting_file.specs.Verdict.{Bytes, written, withHeader, OfFormat}
@@ -19,11 +19,12 @@ use Rattle.sitting_file.proofs.Rewritten.{accepted-bytes}
 use Rattle.sitting_file.proofs.Written.{format-follow}
 use Rattle.writing.specs.Writing.{fileOf}
 use Rattle.writing.proofs.RoundTrip.{same-file}
-use Rattle.salvage.specs.Salvage.{firstBytes, secondBytes, keptBytes, goneOf, cutOff, Saved, savedOf, Salvages}
+use Rattle.salvage.specs.Salvage.{firstBytes, secondBytes, keptBytes, goneOf, cutOff, Saved, savedOf}
 use Rattle.salvage.specs.Saving.{nothingLost, SoundSame}
 use Rattle.salvage.specs.declared.Gone.{Gone}
 use Rattle.salvage.proofs.Keeping.{all-kept}
 use Rattle.salvage.proofs.Answers.{saved-answers}
+use Rattle.salvage.proofs.Parts.{saved-same}
 
 -- bytes that are all below A, as many as are wanted: nothing is gone
 none-gone : (A wanted : ℕ) (bytes : List ℕ) → keptBytes A bytes ≡ bytes → length bytes ≡ wanted → goneOf A wanted bytes ≡ record { missing = 0; dropped = 0 }
@@ -76,21 +77,13 @@ module _ (file : List ℕ) (shape : Shape) (bytes : Bytes file) (e : readOf file
       let h = accepted-holds file shape e in
       omega (arith, length-drop (shape .first + shape .second) (drop at file), ap length sound-body, length-append xs ys, h .first-count, h .second-count)
 
-  -- what is saved, by the samples' bytes and how many are cut off
-  abbrev savedFrom : List ℕ → List ℕ → ℕ → Saved
-  savedFrom us vs cut = record {
-    file = fileOf A (shape .depth) (keptBytes A us) (keptBytes A vs);
-    lost = record { first = goneOf A (shape .first) us; second = goneOf A (shape .second) vs; cut = cut };
-  }
-
   sound-saved : savedOf shape (drop at file) ≡ record { file = file; lost = nothingLost }
   sound-saved =
       let h = accepted-holds file shape e in
       let f : fileOf A (shape .depth) (keptBytes A xs) (keptBytes A ys) ≡ file = ap₂ (fileOf A (shape .depth)) first-kept second-kept ∙ same-file file shape bytes e in
       let g = none-gone A (shape .first) xs first-kept (h .first-count) in
       let k = none-gone A (shape .second) ys second-kept (h .second-count) in
-      ap₂ (λ (us vs : List ℕ). savedFrom us vs (cutOff shape (drop at file))) first-same second-same
-      ∙ ap (savedFrom xs ys) nothing-cut
+      saved-same shape (drop at file) xs ys 0 first-same second-same nothing-cut
       ∙ ap₂ (λ (x y : Gone). record { file = fileOf A (shape .depth) (keptBytes A xs) (keptBytes A ys); lost = record { first = x; second = y; cut = 0 } }) g k
       ∙ ap (λ (l : List ℕ). record { file = l; lost = nothingLost }) f
 

@@ -1,7 +1,7 @@
 // Salvages damaged sitting files: each sample is kept up to its first byte that is no symbol, and what was lost is told.
 ghost use mathlib.Core.Path.{_≡_};
 ghost use Prim.Native.Nat.{_+_, _-_, _≤_};
-ghost use lib.ListN.{length, take, drop};
+ghost use lib.ListN.{take, drop};
 ghost use Rattle.sitting_file.specs.Format.{headerOf};
 ghost use Rattle.sitting_file.specs.declared.Heading.the-variants.{Whole};
 ghost use Rattle.salvage.specs.Salvage.{keptBytes, refusalNumber, toldBy, salvageOutcome, Within, Salvages};

@@ -1,1 +1,2 @@
+pub mod PutOut
 pub mod Filtering

@@ -1,5 +1,5 @@
 -- `salvage::kept` meets its contract: the bytes before a place, and what is kept from there on. Assumes nothing.
-use Prim.Native.Nat.{ℕ, _≤_, _-_}
+use Prim.Native.Nat.{_≤_, _-_}
 use native.Mathlib.Omega.{arith}
 use mathlib.Core.Path.{_≡_, refl, sym}
 use mathlib.Core.List.{_++_}

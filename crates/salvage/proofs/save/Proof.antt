@@ -1,7 +1,7 @@
 -- `salvage::save` meets its contract: the samples' bytes, what is kept of them, what is lost, and the writer's answer. Assumes nothing.
 use Prim.Native.Nat.{ℕ, _+_, _≤_}
 use native.Mathlib.Omega.{arith}
-use mathlib.Core.Path.{_≡_, sym, ap, ap₂, subst, _∙_}
+use mathlib.Core.Path.{_≡_, sym, ap, subst, _∙_}
 use mathlib.Core.List.{List}
 use borrow.Author.Needs.{needs}
 use lib.ListN.{length, drop, length-take}
@@ -9,10 +9,11 @@ use Rattle.numbers.specs.Limits.{longest}
 use Rattle.sitting_file.specs.Samples.{longestHeader}
 use Rattle.sitting_file.specs.declared.Shape.{Shape}
 use Rattle.sitting_file.proofs.Stages.{HeaderRead, header-read}
-use Rattle.salvage.specs.Salvage.{keptBytes, firstBytes, secondBytes, firstKept, secondKept, lostOf, salvageOutcome, Within, Salvages}
+use Rattle.salvage.specs.Salvage.{keptBytes, firstBytes, secondBytes, firstKept, secondKept, salvageOutcome, Within, Salvages}
 use Rattle.salvage.specs.declared.Salvaged.{Salvaged}
 use Rattle.salvage.proofs.Keeping.{kept-fits}
-use Rattle.salvage.proofs.Answers.{saved-by, second-part, gone-told, lost-told, same-written}
+use Rattle.salvage.proofs.Answers.{saved-by}
+use Rattle.salvage.proofs.Parts.{second-part, gone-told, lost-told, same-written}
 use Rattle.salvage.proofs.save.Statement.{statement}
 use Rattle.salvage.proofs.save.Tie as tie
 

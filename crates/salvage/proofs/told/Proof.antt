@@ -1,5 +1,5 @@
 -- `salvage::told` meets its contract: each case of the writer's answer. Assumes nothing.
-use mathlib.Core.Path.{_≡_, sym, ap}
+use mathlib.Core.Path.{sym, ap}
 use borrow.Author.Needs.{needs}
 use Rattle.writing.specs.declared.Writing.{Writing}
 use Rattle.salvage.specs.Salvage.{toldBy}

@@ -1,8 +1,7 @@
 -- `salvage_input::put_losses` meets its contract: one line. Assumes nothing.
 use Prim.Native.Nat.{_+_, min, _<_}
 use native.Mathlib.Omega.{arith}
-use mathlib.Core.Path.{_≡_, sym, subst, _∙_}
-use lib.IntN.{pos}
+use mathlib.Core.Path.{sym, subst, _∙_}
 use mir.Syntax.{w64}
 use mir.Val.{SFits}
 use mir.Facts.{toZ-ofZ}

@@ -1,17 +1,17 @@
 -- `salvage_input::salvage_read` meets its contract: the bytes read are salvaged, and the answer's line is put. Assumes nothing.
 use Prim.Native.Nat.{ℕ}
 use native.Mathlib.Omega.{arith}
-use mathlib.Core.Path.{_≡_, sym, ap, subst, _∙_}
+use mathlib.Core.Path.{sym, ap, subst}
 use mathlib.Core.List.{List}
 use lib.ListN.{take}
 use lib.Seq.{length-take-le}
 use borrow.Author.Needs.{needs}
-use Rattle.replay.specs.Table.{Outcome, answered}
-use Rattle.salvage.specs.Salvage.{Saved, salvageOutcome, Salvages}
+use Rattle.salvage.specs.Salvage.{salvageOutcome, Salvages}
 use Rattle.salvage.specs.declared.Salvaged.{Salvaged}
 use Rattle.printing.specs.Putting.{Printed}
 use Rattle.printing.specs.Text.{refusalText}
-use Rattle.salvage_input.proofs.Filtering.{few-lost, refused-out, saved-out, input-filters}
+use Rattle.salvage_input.proofs.Filtering.{input-filters}
+use Rattle.salvage_input.proofs.PutOut.{few-lost, refused-out, saved-out}
 use Rattle.salvage_input.proofs.salvage_read.Statement.{statement}
 use Rattle.salvage_input.proofs.salvage_read.Tie as tie
 
