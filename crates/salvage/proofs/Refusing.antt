@@ -20,9 +20,9 @@ use Rattle.sitting_file.specs.declared.Heading.{Heading}
 use Rattle.sitting_file.specs.declared.Heading.the-variants.{Whole, Faulty}
 use Rattle.sitting_file.proofs.AnswerTrue.{header-place}
 use Rattle.sitting_file.proofs.Stages.{header-fault, header-read}
-use Rattle.writing.proofs.Sizes.{one-long, two-long, at-most-two, file-long}
+use Rattle.writing.proofs.Sizes.{one-long, two-long, at-most-two, file-long, file-fits}
 use Rattle.salvage.specs.Salvage.{firstBytes, secondBytes, firstKept, secondKept, Saved, savedOf, salvageLines, salvageOf}
-use Rattle.salvage.specs.Saving.{nothingLost, ReadersOr19, AsTheReader, NeverLonger}
+use Rattle.salvage.specs.Saving.{nothingLost, ReadersOr19, AsTheReader, NeverLonger, LongestEnough}
 use Rattle.salvage.proofs.Keeping.{kept-fits}
 use Rattle.salvage.proofs.Answers.{kept-good, saved-answers}
 
@@ -91,11 +91,27 @@ not-19 NotShortest e = omega (arith, e)
 not-19 OutsideLimits e = omega (arith, e)
 not-19 BytesLeft e = omega (arith, e)
 
+-- where there is room for what is saved behind any whole header, 19 is not given
+room-enough : (damaged : List ℕ) (room : ℕ) → ((shape : Shape) (at : ℕ) → headerOf damaged ≡ Whole shape at → length (savedOf shape (drop at damaged) .file) ≤ room)
+    → salvageOf (headerOf damaged) damaged room ≡ refused 19 → ⊥
+unfolding salvageOf
+room-enough damaged room fits e = go (headerOf damaged) refl e
+  where
+    go : (h : Heading) → headerOf damaged ≡ h → salvageOf (headerOf damaged) damaged room ≡ refused 19 → ⊥
+    go (Faulty why) q f = not-19 why (number-same (sym (ap (λ (h : Heading). salvageOf h damaged room) q) ∙ f))
+    go (Whole shape at) q f = no-refusal (saved-answers damaged shape at q room (fits shape at q)) f
+
 -- THEOREM. With as many bytes as the damaged file has, 19 is never given
 pub never-longer : NeverLonger
-unfolding salvageOf
-never-longer damaged before after o bytes room w e = go (headerOf damaged) refl (sym (w .answers) ∙ e)
+never-longer damaged before after o bytes room w e =
+    room-enough damaged (length before) (λ shape at q. omega (arith, room, no-longer damaged bytes shape at q)) (sym (w .answers) ∙ e)
+
+-- THEOREM. Nor with as many as the longest file of the format has
+pub longest-enough : LongestEnough
+longest-enough damaged room h e = room-enough damaged room fits e
   where
-    go : (h : Heading) → headerOf damaged ≡ h → salvageOf (headerOf damaged) damaged (length before) ≡ refused 19 → ⊥
-    go (Faulty why) q f = not-19 why (number-same (sym (ap (λ (h : Heading). salvageOf h damaged (length before)) q) ∙ f))
-    go (Whole shape at) q f = no-refusal (saved-answers damaged shape at q (length before) (omega (arith, no-longer damaged bytes shape at q))) f
+    fits : (shape : Shape) (at : ℕ) → headerOf damaged ≡ Whole shape at → length (savedOf shape (drop at damaged) .file) ≤ room
+    fits shape at q =
+        let g = kept-good damaged shape at q in
+        let l = g .limits in
+        omega (arith, h, l .first-high, l .second-high, file-fits (shape .alphabet) (shape .depth) (firstKept shape (drop at damaged)) (secondKept shape (drop at damaged)) g)

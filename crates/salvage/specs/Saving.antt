@@ -8,7 +8,7 @@ use Rattle.replay.specs.Table.{Outcome, refused, answered}
 use Rattle.sitting_file.specs.Format.{headerOf, readOf}
 use Rattle.sitting_file.specs.Format as format
 use Rattle.sitting_file.specs.Input.{inputBytes}
-use Rattle.sitting_file.specs.Samples.{Below}
+use Rattle.sitting_file.specs.Samples.{Below, longestFile}
 use Rattle.sitting_file.specs.Verdict.{Bytes}
 use Rattle.sitting_file.specs.declared.Shape.{Shape}
 use Rattle.sitting_file.specs.declared.Refusal as file
@@ -73,6 +73,10 @@ AsTheReader = (damaged before after : List ℕ) (n : ℕ) → Salvages damaged b
 -- as many bytes as the damaged file has are never too few
 abbrev pub NeverLonger : Type 0
 NeverLonger = (damaged before after : List ℕ) (o : Outcome Saved) → Bytes damaged → length damaged ≤ length before → Salvages damaged before o after → o ≡ refused 19 → ⊥
+
+-- nor are as many as the longest file of the format has
+abbrev pub LongestEnough : Type 0
+LongestEnough = (damaged : List ℕ) (room : ℕ) → longestFile ≤ room → salvageOf (headerOf damaged) damaged room ≡ refused 19 → ⊥
 
 -- ---- long input
 

@@ -15,10 +15,11 @@ use Rattle.salvage.specs.Salvage.{Saved}
 use Rattle.salvage.specs.Saving.{cutMore}
 use Rattle.salvage.specs.declared.Lost.{Lost}
 use Rattle.salvage.proofs.Longer.{first-bytes-save}
+use Rattle.salvage.proofs.Refusing.{longest-enough}
 use Rattle.printing.specs.Text.{lineOf}
 use Rattle.printing.specs.Putting.{Printed}
 use Rattle.printing.proofs.Settled.{printed-settles}
-use Rattle.salvage_input.specs.Filter.{mostTold, lineFor, fileFor, salvaged, PutsOut, FiltersInput}
+use Rattle.salvage_input.specs.Filter.{mostTold, lineFor, fileFor, salvaged, Never19, PutsOut, FiltersInput}
 use Rattle.salvage_input.specs.declared.Ends.{Ends}
 
 -- ---- more bytes beyond
@@ -76,6 +77,10 @@ module _ (file line file′ line′ : List ℕ) (r : Ends) where
           subst (λ (o : Outcome Saved). PutsOut o file line r file′ line′) (sym (salvaged-first stdin))
           (told-alike (cutMore beyond first) (cutMore (length stdin - inputBytes) first) (t .0) (t .1)
           (subst (λ (l : List ℕ). PutsOut (cutMore beyond (salvaged l)) file line r file′ line′) (first-read stdin buffer many long h) p))
+
+-- THEOREM. The program never prints 19
+pub never-19 : Never19
+never-19 stdin e = longest-enough stdin inputBytes (omega arith) e
 
 -- THEOREM. Two results that one promise allows are equal
 pub filters-settled : (buffer : List ℕ) (many beyond : ℕ) (file line : List ℕ) (r q : Ends) (x y u v : List ℕ)

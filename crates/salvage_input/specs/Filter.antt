@@ -36,6 +36,10 @@ fileFor (refused n) = []
 abbrev pub salvaged : List ℕ → Outcome Saved
 salvaged damaged = salvageOf (headerOf damaged) damaged inputBytes
 
+-- no file is too long for that buffer: 19 is not printed
+abbrev pub Never19 : Type 0
+Never19 = (stdin : List ℕ) → salvaged stdin ≡ refused 19 → ⊥
+
 -- an answer put into the bytes lent for the file and for the line: these and nothing else
 pub record PutsOut (o : Outcome Saved) (file line : List ℕ) (r : Ends) (file′ line′ : List ℕ) : Type 0 where
   pub its-file : Printed (fileFor o) file file′ (r .file)
