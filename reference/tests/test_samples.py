@@ -95,6 +95,11 @@ class Damaged(unittest.TestCase):
         first, second = map(len, self.kept)
         self.assertIn(f"is kept: {first} of the learner's acts and {second} of the reference's", self.sentences)
 
+    def test_the_crate_runs_on_it(self):
+        crate = REPOSITORY / "crates" / "salvaging"
+        self.assertEqual((crate / "stdin").read_bytes(), (SAMPLES / "damaged.sitting").read_bytes())
+        self.assertEqual((crate / "stdout").read_bytes(), salvage.output((crate / "stdin").read_bytes())[0])
+
     def test_the_report_of_what_is_saved(self):
         report = output(self.saved)
         self.assertIn(f"\n```\n{report}```\n", self.words)
