@@ -5,7 +5,7 @@ use native.Mathlib.Numerals.{add-one}
 use mathlib.Core.Path.{_≡_, refl, sym, ap, _∙_}
 use mathlib.Core.Bool.{Bool, true, false, cond}
 use mathlib.Core.List.{List, [], _∷_, _++_, append-assoc, append-nil}
-use borrow.Author.Tests.{ltb-true, ltb-false, lt-ltb, le-ltb}
+use borrow.Author.Tests.{ltb-true, lt-ltb, le-ltb}
 use lib.Dec.{ltb}
 use lib.ListN.{length, getD, take, drop, drop-of-length-le, length-append}
 use lib.Seq.{take-suc, take-all, drop-cons}
@@ -43,25 +43,43 @@ module _ (A : ℕ) (bytes : List ℕ) (i : ℕ) where
 
 -- ---- a beginning
 
--- "up to the first byte that is not below A": the kept bytes begin the bytes, are below A, and the byte behind them is not
-pub kept-begins : (A : ℕ) (bytes : List ℕ) → Beginning A bytes (keptBytes A bytes)
+-- no beginning of the bytes that is below A is longer
+kept-longest : (A : ℕ) (bytes other more : List ℕ) → bytes ≡ other ++ more → Below A other → length other ≤ length (keptBytes A bytes)
 unfolding keptBytes
-kept-begins A [] = record { rest = []; split = refl; below = λ i l. absurd (omega arith); ends = λ b more e. let z : _≡_ {A = ℕ} 0 1 = cc in absurd (omega arith) }
-kept-begins A (b ∷ bs) = go (ltb b A) refl (kept-begins A bs)
-  where
-    stop : A ≤ b → Beginning A (b ∷ bs) []
-    stop h = record { rest = b ∷ bs; split = refl; below = λ i l. absurd (omega arith); ends = λ c more e. (let f : b ≡ c = cc in omega (arith, f, h)) }
+kept-longest A bytes [] more e b = omega arith
+kept-longest A [] (o ∷ os) more e b = let z : _≡_ {A = ℕ} 0 1 = cc in absurd (omega arith)
+kept-longest A (x ∷ xs) (o ∷ os) more e b =
+    let same : x ≡ o = cc in
+    let small : o < A = b 0 (omega arith) in
+    let behind : xs ≡ os ++ more = cc in
+    let rest : Below A os = λ i l. b (suc i) (omega arith) in
+    let onward : length os ≤ length (keptBytes A xs) = kept-longest A xs os more behind rest in
+    rw (lt-ltb x A (omega (arith, same, small))) (omega (arith, onward))
 
-    on : b < A → Beginning A bs (keptBytes A bs) → Beginning A (b ∷ bs) (b ∷ keptBytes A bs)
-    on l h = record { rest = h .rest; split = ap {B = List ℕ} (λ (t : List ℕ). b ∷ t) (h .split); below = each; ends = h .ends }
+-- what is kept begins the bytes, and is below A
+record Begins (A : ℕ) (bytes kept : List ℕ) : Type 0 where
+  rest : List ℕ
+  split : bytes ≡ kept ++ rest
+  below : Below A kept
+
+begins : (A : ℕ) (bytes : List ℕ) → Begins A bytes (keptBytes A bytes)
+unfolding keptBytes
+begins A [] = record { rest = []; split = refl; below = λ i l. absurd (omega arith) }
+begins A (b ∷ bs) = go (ltb b A) refl (begins A bs)
+  where
+    on : b < A → Begins A bs (keptBytes A bs) → Begins A (b ∷ bs) (b ∷ keptBytes A bs)
+    on l h = record { rest = h .rest; split = ap {B = List ℕ} (λ (t : List ℕ). b ∷ t) (h .split); below = each }
       where
         each : Below A (b ∷ keptBytes A bs)
         each zero k = l
         each (suc i) k = h .below i (omega arith)
 
-    go : (t : Bool) → ltb b A ≡ t → Beginning A bs (keptBytes A bs) → Beginning A (b ∷ bs) (cond t (b ∷ keptBytes A bs) [])
+    go : (t : Bool) → ltb b A ≡ t → Begins A bs (keptBytes A bs) → Begins A (b ∷ bs) (cond t (b ∷ keptBytes A bs) [])
     go true e h = on (ltb-true b A e) h
-    go false e h = stop (ltb-false b A e)
+    go false e h = record { rest = b ∷ bs; split = refl; below = λ i l. absurd (omega arith) }
+
+pub kept-begins : (A : ℕ) (bytes : List ℕ) → Beginning A bytes (keptBytes A bytes)
+kept-begins A bytes = let h = begins A bytes in record { rest = h .rest; split = h .split; below = h .below; none-longer = kept-longest A bytes }
 
 -- bytes that are all below A are all kept
 pub all-kept : (A : ℕ) (bytes : List ℕ) → Below A bytes → keptBytes A bytes ≡ bytes

@@ -2,7 +2,7 @@
 use Prim.Native.Nat.{ℕ, _+_, _-_, _≤_}
 use mathlib.Core.Path.{_≡_}
 use mathlib.Core.Logic.{_⊎_}
-use mathlib.Core.List.{List, _∷_, _++_}
+use mathlib.Core.List.{List, _++_}
 use lib.ListN.{length, take, drop}
 use Rattle.replay.specs.Table.{Outcome, refused, answered}
 use Rattle.sitting_file.specs.Format.{headerOf, readOf}
@@ -21,12 +21,12 @@ use Rattle.salvage.specs.declared.Lost.{Lost}
 
 -- ---- what is saved
 
--- "Each sample's kept symbols are a beginning of its bytes", below A, and the byte behind them is not: no longer beginning is below A
+-- "Each sample's kept symbols are a beginning of its bytes", below A, and no longer one is
 pub record Beginning (A : ℕ) (bytes kept : List ℕ) : Type 0 where
   pub rest : List ℕ
   pub split : bytes ≡ kept ++ rest
   pub below : Below A kept
-  pub ends : (b : ℕ) (more : List ℕ) → rest ≡ b ∷ more → A ≤ b
+  pub none-longer : (other more : List ℕ) → bytes ≡ other ++ more → Below A other → length other ≤ length kept
 
 -- an accepted salvage that left `after`: the header, and the two kept samples
 pub record Saves (damaged : List ℕ) (s : Saved) (after : List ℕ) : Type 0 where
