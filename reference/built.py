@@ -13,6 +13,7 @@ from reference.script import SCRIPT_BYTES, UNKNOWN, Player, answer_kind, parse
 from reference.walks import drawn_walk, every_length, spoilt_walk
 
 LONGEST_RUN = 120  # seconds
+NOT_WRITTEN = "the saved file could not be written\n"
 SCRIPTS = Path(__file__).parent / "scripts"
 
 
@@ -22,11 +23,12 @@ class Built:
     def __init__(self, path):
         self.command = command(path)
 
-    def run(self, given, shown):
+    def run(self, given, shown, output=subprocess.PIPE):
         """What it writes to standard output and to standard error; `shown` is the input as a text, for a run that goes
         wrong."""
         try:
-            run = subprocess.run(self.command, input=given, capture_output=True, timeout=LONGEST_RUN)
+            ways = {"stdout": output, "stderr": subprocess.PIPE}
+            run = subprocess.run(self.command, input=given, timeout=LONGEST_RUN, **ways)
         except subprocess.TimeoutExpired:
             raise Difference("no end of the run", shown, after=f"{LONGEST_RUN} seconds")
         except OSError as fault:
@@ -66,6 +68,15 @@ class BuiltSalvage(Built):
         """Every cut and every spoilt byte of two files, the files at the limits, and long inputs."""
         for damaged in fixed_damages():
             self.compare(damaged, tally)
+        self.compare_full_output(tally)
+
+    def compare_full_output(self, tally):
+        """Where the saved file cannot be written, no losses are told as if it were."""
+        damaged = next(damaged for damaged in fixed_damages() if salvage.output(damaged)[0])
+        with open("/dev/full", "wb") as full:
+            line = self.run(damaged, salvage.shown(damaged), full)[1]
+        demand_equal("output that takes nothing", salvage.shown(damaged), rule=NOT_WRITTEN, built=line)
+        tally["salvage: files", "not written"] += 1
 
     def compare_drawn(self, random, tally):
         """One damaged file, or a whole one."""

@@ -268,7 +268,7 @@ def check_sound(random, tally):
 
 
 def check_longer_input(random, tally):
-    """The whole input against its first 2,048 bytes and how many follow."""
+    """The whole input against those of its bytes that the program reads and how many follow."""
     damaged = file_to_salvage(random)
     beginning, following = damaged[:INPUT_BYTES], len(damaged[INPUT_BYTES:])
     demand_equal("input", shown(damaged), whole=output(damaged), beginning=output(beginning, following))

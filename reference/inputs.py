@@ -5,6 +5,7 @@ from pathlib import Path
 
 from reference.estimate import Sitting
 from reference.limits import ALPHABETS, DEPTHS, SAMPLE_LIMIT
+from reference.program import INPUT_BYTES
 from reference.sitting_file import number_bytes, write
 
 SAMPLES = Path(__file__).resolve().parents[1] / "samples"
@@ -437,8 +438,8 @@ def edges_of_two_groups():
 
 
 def with_long_ends(file):
-    """The file with bytes after it: around what the program reads, around other powers of two, and far above."""
-    lengths = [2**power + more for power in (11, 12, 16) for more in (-1, 0, 1)] + [70000, 300000]
+    """The file with bytes after it: around what the program reads, around what it counts at a time, and far above."""
+    lengths = [length + more for length in (INPUT_BYTES, 2**12, 2**16, INPUT_BYTES + 2**16) for more in (-1, 0, 1)] + [300000]
     return [file + b"\xff" * (length - len(file)) for length in lengths]
 
 

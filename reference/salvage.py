@@ -48,8 +48,8 @@ def losses(sample, length, A):
 
 
 def output(damaged, following=0):
-    """What the program writes: the saved file, and the line that says what was lost or refused. No bytes past the first
-    2,048 need be given; `following` is how many were left out, and all of these are cut off."""
+    """What the program writes: the saved file, and the line that says what was lost or refused. No bytes past those that the
+    program reads need be given; `following` is how many were left out, and all of these are cut off."""
     buffer = bytearray(INPUT_BYTES)
     answer = salvage(damaged, buffer)
     if isinstance(answer, Refused):

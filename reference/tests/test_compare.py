@@ -13,10 +13,11 @@ from unittest.mock import patch
 
 from reference import checks, salvage, sitting_file
 from reference.answers import Lost, Refused, Shape, Written
-from reference.built import BuiltSalvage
+from reference.built import NOT_WRITTEN, BuiltSalvage
 from reference.checks import CHECKS, check_longer_input, check_salvage, check_saved, check_sound, header_by_forms
 from reference.difference import Difference
 from reference.inputs import fixed_damages
+from reference.program import INPUT_BYTES
 from reference.replay import accepted, by_sitting, replay_of
 from reference.salvage import losses
 from reference.script import call
@@ -90,11 +91,11 @@ class Built(unittest.TestCase):
 class Salvage(BuiltSalvage):
     """A salvage in this process in the place of a built one."""
 
-    def __init__(self, salvaged):
-        self.salvaged = salvaged
+    def __init__(self, salvaged, full=NOT_WRITTEN):
+        self.salvaged, self.full = salvaged, full
 
-    def run(self, given, shown):
-        return self.salvaged(given)
+    def run(self, given, shown, output=None):
+        return (b"", self.full) if output else self.salvaged(given)
 
 
 def keeping(kept):
@@ -169,7 +170,7 @@ WRONG_SALVAGES = {
     "exchanges the samples' losses": telling(lambda lost: lost[2:4] + lost[:2] + lost[4:]),
     "exchanges missing and dropped": telling(lambda lost: [lost[place] for place in (1, 0, 3, 2, 4)]),
     "counts in 16 bits": telling(lambda lost: [count % 2**16 for count in lost]),
-    "reads 2,048 bytes": lambda damaged: salvage.output(damaged[:2048]),
+    "counts nothing after what it reads": lambda damaged: salvage.output(damaged[:INPUT_BYTES]),
     "refuses with 16": refuses_more,
     "ends no line": lambda damaged: (salvage.output(damaged)[0], salvage.output(damaged)[1].rstrip()),
     "writes a byte more": unless_refused(lambda damaged, saved, lost: (saved + b"\0", lost)),
@@ -180,13 +181,17 @@ class Salvages(unittest.TestCase):
     def test_a_right_one(self):
         tally = Counter()
         Salvage(salvage.output).compare_fixed(tally)
-        self.assertEqual(sum(tally.values()), len(fixed_damages()))
+        self.assertEqual(sum(tally.values()), len(fixed_damages()) + 1)
         self.assertIn(f"\n{len(fixed_damages()):,} fixed inputs", README.read_text("utf-8"))
         for seed in range(100):
             Salvage(salvage.output).compare_drawn(Random(seed), tally)
         kinds = {kind for _, kind in tally}
         self.assertTrue({"refused 13", "refused 14", "refused 15", "nothing lost", "cut off"} <= kinds, kinds)
         self.assertTrue({"missing", "dropped", "missing and dropped", "dropped and cut off"} <= kinds, kinds)
+
+    def test_one_that_tells_losses_of_a_file_it_could_not_write(self):
+        with self.assertRaises(Difference):
+            Salvage(salvage.output, full="3 0 2 0 0\n").compare_fixed(Counter())
 
     def test_wrong_ones_are_found_by_fixed_files(self):
         for wrong, salvaged in WRONG_SALVAGES.items():

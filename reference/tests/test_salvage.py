@@ -7,6 +7,7 @@ import unittest
 from reference.answers import Lost, Refused, Salvaged
 from reference.inputs import fixed_files
 from reference.limits import ALPHABETS, SAMPLE_LIMIT
+from reference.program import INPUT_BYTES
 from reference.salvage import output, salvage
 from reference.sitting_file import number_bytes, read, write
 
@@ -198,9 +199,9 @@ class Program(unittest.TestCase):
             self.assertEqual(run_program(damaged), (b"", f"refused {number}\n", 0))
 
     def test_input_of_any_length(self):
-        """Those 2,048 bytes that decide the file, and all that are counted after them."""
+        """Those bytes that decide the file, and all that are counted after them."""
         file = bytes.fromhex("02 01 01 02 00 01 00")
-        for length in (2047, 2048, 2049, 65536, 67584, 67585, 300000):
+        for length in (INPUT_BYTES - 1, INPUT_BYTES, INPUT_BYTES + 1, 65536, INPUT_BYTES + 65536, INPUT_BYTES + 65537, 300000):
             damaged = file + b"\xff" * (length - len(file))
             self.assertEqual(run_program(damaged), (file, f"0 0 0 0 {length - len(file)}\n", 0))
             self.assertEqual(output(damaged), (file, f"0 0 0 0 {length - len(file)}\n"))

@@ -65,7 +65,7 @@ SOUND = [(bytes.fromhex(text), bytes.fromhex(text), NOTHING) for _, text in GOOD
 HEADERS = {
     13: ("", "02", "02 01", "02 01 03", "80", "02 ff", "02 01 80", "02 01 03 81"),
     14: ("80 00", "82 00 01", "02 81 00", "02 01 80 80 00", "02 01 03 80 00 00 00", "ff ff"),
-    15: ("00", "01", "09 80 00", "82 01", "02 07 ff", "02 06 81 04 00", "02 06 00 81 04 00 00", "02 06 ff 7f"),
+    15: ("00", "01", "09 80 00", "82 01", "02 07 ff", "02 06 ff 7f", "02 06 ff 7f 00", "02 06 00 ff 7f 00 00"),
 }
 HEADERS = [(number, bytes.fromhex(text)) for number, texts in HEADERS.items() for text in texts]
 

@@ -121,7 +121,7 @@ mod tests {
             for longer in [&[2, 0x81, 0, 3, 3, 0][..], &[2, 1, 3, 0x80, 0x80], &[0x80, 0]] {
                 refused(14, longer, room);
             }
-            for outside in [&[9][..], &[1, 0x80, 0], &[2, 7, 0, 0], &[2, 0, 0x81, 4, 0], &[2, 0, 0, 0x81, 4]] {
+            for outside in [&[9][..], &[1, 0x80, 0], &[2, 7, 0, 0], &[2, 0, 0xff, 0x7f, 0], &[2, 0, 0, 0xff, 0x7f]] {
                 refused(15, outside, room);
             }
         }

@@ -1,6 +1,6 @@
 -- Demand 1: every call is refused exactly by its table, and a refused call changes nothing. Assumes nothing.
 use Prim.Native.Nat.{ℕ}
-use mathlib.Core.Path.{_≡_, refl, sym, ap, subst, _∙_}
+use mathlib.Core.Path.{_≡_, refl, sym, ap, _∙_}
 use mathlib.Core.Bool.{Bool, true, false, cond, not}
 use mathlib.Core.List.{List}
 use lib.ListN.{length}
@@ -102,6 +102,6 @@ demand-1-salvage damaged before after o w =
     record {
       refused-exactly = λ n. rw e (refused-exactly lines (t .0) n);
       saved-exactly = (λ a. answers-none lines (t .0) (a .0) (sym e ∙ a .1) .0, λ h. (t .0, e ∙ none-answers lines (t .0) h));
-      as-the-reader = λ n r. as-the-reader damaged before after n (subst (λ (p : Outcome Saved). Salvages damaged before p after) r w);
+      as-the-reader = as-the-reader damaged before after o w;
       refused-stays = w .refused-stays;
     }

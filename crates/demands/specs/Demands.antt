@@ -21,7 +21,7 @@ use Rattle.replay.specs.Serial.{Told, Course, calls, answers, struck, sittings,
 use Rattle.replay.specs.Alone.{latest, asks}
 use Rattle.writing.specs.Writing.{fileOf, writingLines}
 use Rattle.salvage.specs.Salvage.{Saved, salvageLines}
-use Rattle.salvage.specs.Saving.{ReadersOr19}
+use Rattle.salvage.specs.Saving.{RefusedAsRead}
 use Rattle.store.specs.Making.{roomOutside, storeShort}
 use Rattle.store.specs.declared.Made.{Made}
 use Rattle.store.specs.declared.Made.the-variants.{Done, RoomOutside, StoreShort}
@@ -33,6 +33,8 @@ use Rattle.rules.specs.Rules.{Answer, done, reporting, reported, rules}
 use Rattle.rules.specs.Strings.{stringsOf, sittingFor}
 use Rattle.sitting_file.specs.Format.{headerOf}
 use Rattle.sitting_file.specs.Samples.{Below}
+use Rattle.sitting_file.specs.declared.Refusal as file
+use Rattle.sitting_file.specs.declared.Heading.the-variants.{Faulty}
 use Rattle.demands.specs.Runs.{OnSheet, Does, MadeNew, Run}
 
 -- ---- DEMAND 1: "refuses by number under the stated conditions and no others. A refused call changes neither the store nor the sheet."
@@ -80,7 +82,7 @@ pub record Demand1Salvage (damaged before : List ℕ) (o : Outcome Saved) (after
   pub refused-exactly : (n : ℕ) → (o ≡ refused n) ↔ First (salvageLines (headerOf damaged) damaged (length before)) n
   pub saved-exactly : ((s : Saved) × (o ≡ answered s)) ↔ NoneApplies (salvageLines (headerOf damaged) damaged (length before))
   -- a faulty header has the reader's number, never 16
-  pub as-the-reader : (n : ℕ) → o ≡ refused n → ReadersOr19 damaged n
+  pub as-the-reader : (why : file.Refusal) → headerOf damaged ≡ Faulty why → RefusedAsRead damaged why o
   pub refused-stays : (n : ℕ) → o ≡ refused n → after ≡ before
 
 -- ---- DEMAND 2: "A report is the joint context tree estimate .."

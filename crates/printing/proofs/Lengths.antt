@@ -78,7 +78,7 @@ wider : (l : List ℕ) (z : ℤ) → Small l → SFits w64 z → Short 20 (map p
 wider [] z h f = (signed-long z f, tt)
 wider (x ∷ l) z h f = (omega (arith, number-long x (h 0)), wider l z (λ i. h (suc i)) f)
 
--- at most twelve numbers
+-- few numbers
 pub line-fits : (l : List ℕ) (z : ℤ) → length l ≤ rowWidth → Small l → SFits w64 z → length (lineOf (map pos l ++ (z ∷ []))) ≤ textBytes
 line-fits l z h s f = omega (arith, line-long 20 (map pos l ++ (z ∷ [])) (wider l z s f), length-append (map pos l) (z ∷ []), length-map l pos)
 

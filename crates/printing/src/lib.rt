@@ -55,8 +55,15 @@ pub fn put_refusal(buffer: &mut [u8; TEXT_BYTES], number: u32) -> usize
     put_line(buffer, at, &[], number as i64)
 }
 
-// Puts a line of some numbers and a last one at the start of the buffer, and answers how many bytes it has.
-pub fn put_numbers(buffer: &mut [u8; TEXT_BYTES], numbers: &[u32], last: i64) -> usize
+// Puts a line of four numbers and a last one at the start of the buffer, and answers how many bytes it has.
+pub fn put_five(buffer: &mut [u8; TEXT_BYTES], numbers: &[u32; 4], last: i64) -> usize
+    ensures { λ r. ⌜ Printed (lineOf (map pos (now (numbers .entry)) ++ (last ∷ []))) (now (buffer .entry)) (now (buffer .exit)) r ⌝ }
+{
+    put_numbers(buffer, numbers, last)
+}
+
+// The same for as many numbers as a row has at most.
+fn put_numbers(buffer: &mut [u8; TEXT_BYTES], numbers: &[u32], last: i64) -> usize
     requires { ⌜ length (now numbers) ≤ rowWidth ⌝ }
     ensures { λ r. ⌜ Printed (lineOf (map pos (now (numbers .entry)) ++ (last ∷ []))) (now (buffer .entry)) (now (buffer .exit)) r ⌝ }
 {

@@ -22,7 +22,7 @@ use Rattle.writing.specs.declared.Writing.{Writing}
 use Rattle.writing.specs.declared.Writing.the-variants as writer
 use Rattle.writing.proofs.Good.{Good}
 use Rattle.writing.proofs.Answers.{good-answers, good-short, accepted}
-use Rattle.salvage.specs.Salvage.{firstBytes, secondBytes, firstKept, secondKept, Saved, savedOf, salvageOf, toldBy, salvageOutcome, Within, Salvages}
+use Rattle.salvage.specs.Salvage.{firstBytes, secondBytes, firstKept, secondKept, Saved, savedOf, salvageOf, salvagedBy, salvageOutcome, Within, Salvages}
 use Rattle.salvage.specs.declared.Lost.{Lost}
 use Rattle.salvage.proofs.Keeping.{kept-begins, kept-fits}
 
@@ -67,7 +67,7 @@ module _ (damaged : List ℕ) (shape : Shape) (at : ℕ) (whole : headerOf damag
   unfolding salvageOf verdictOf
   saved-answers room h = rw (whole, le-ltb room (length (saved .file)) h)
 
-  pub saved-short : (room : ℕ) → room < length (saved .file) → salvageOf (headerOf damaged) damaged room ≡ refused 19
+  saved-short : (room : ℕ) → room < length (saved .file) → salvageOf (headerOf damaged) damaged room ≡ refused 19
   unfolding salvageOf verdictOf
   saved-short room h = rw (whole, lt-ltb room (length (saved .file)) h)
 
@@ -78,7 +78,7 @@ module _ (damaged : List ℕ) (shape : Shape) (at : ℕ) (whole : headerOf damag
     Wrote o = WritesFile (shape .alphabet) (shape .depth) (firstKept shape body) (secondKept shape body) before o after
 
     -- the writer refuses too few bytes alone
-    pub none-saved : (n : ℕ) → Wrote (refused n) → Salvages damaged before (refused 19) after
+    none-saved : (n : ℕ) → Wrote (refused n) → Salvages damaged before (refused 19) after
     none-saved n w = elim (decLe (length (saved .file)) (length before)) [
       | yes h ↦ no-refusal (good-answers (shape .alphabet) (shape .depth) (firstKept shape body) (secondKept shape body) (length before) kept-good h) (sym (w .answers))
       | no h ↦ record { answers = sym (saved-short (length before) (omega arith)); file-written = λ s e. no-refusal e refl; refused-stays = λ m e. w .refused-stays n refl }
@@ -94,7 +94,7 @@ module _ (damaged : List ℕ) (shape : Shape) (at : ℕ) (whole : headerOf damag
       left-by : (l : List ℕ) → l ≡ saved .file → after ≡ l ++ drop (length l) before
       left-by l e = left ∙ ap₂ (λ (f : List ℕ) (k : ℕ). f ++ drop k before) (sym e) (sym size-told ∙ ap length (sym e))
 
-      pub fits : size ≤ length after
+      fits : size ≤ length after
       fits = omega (arith, size-told, ap length left, length-append (saved .file) (drop size before))
 
       room : length (saved .file) ≤ length before
@@ -107,7 +107,7 @@ module _ (damaged : List ℕ) (shape : Shape) (at : ℕ) (whole : headerOf damag
       at-start : take size after ≡ saved .file
       at-start = ap (take size) left ∙ take-at (saved .file) (drop size before) size size-told
 
-      pub file-saved : Salvages damaged before (answered (record { file = take size after; lost = saved .lost })) after
+      file-saved : Salvages damaged before (answered (record { file = take size after; lost = saved .lost })) after
       file-saved =
           let same : _≡_ {A = Saved} (record { file = take size after; lost = saved .lost }) saved = ap (λ (l : List ℕ). record { file = l; lost = saved .lost }) at-start in
           record {
@@ -117,7 +117,7 @@ module _ (damaged : List ℕ) (shape : Shape) (at : ℕ) (whole : headerOf damag
           }
 
     -- either way, with what the code tells of it
-    pub saved-by : (x : Writing) (lost : Lost) → lost ≡ saved .lost → Wrote (writingOutcome x) → Salvages damaged before (salvageOutcome (toldBy x lost) after) after × Within (toldBy x lost) after
+    pub saved-by : (x : Writing) (lost : Lost) → lost ≡ saved .lost → Wrote (writingOutcome x) → Salvages damaged before (salvageOutcome (salvagedBy x lost) after) after × Within (salvagedBy x lost) after
     saved-by (writer.Length size) lost e w =
         (subst (λ (l : Lost). Salvages damaged before (answered (record { file = take size after; lost = l })) after) (sym e) (file-saved size w), fits size w)
     saved-by (writer.Refused why) lost e w = (none-saved (writing.refusalNumber why) w, tt)

@@ -87,6 +87,14 @@ unfolding keptBytes
 all-kept A [] b = refl
 all-kept A (x ∷ xs) b = rw (lt-ltb x A (b 0 (omega arith)), all-kept A xs (λ i l. b (suc i) (omega arith)))
 
+-- and kept bytes that are as many are the bytes
+pub whole-kept : (A : ℕ) (bytes : List ℕ) → length bytes ≤ length (keptBytes A bytes) → keptBytes A bytes ≡ bytes
+whole-kept A bytes h = let b = begins A bytes in go (b .rest) (b .split) (omega (arith, h, ap length (b .split), length-append (keptBytes A bytes) (b .rest)))
+  where
+    go : (rest : List ℕ) → bytes ≡ keptBytes A bytes ++ rest → length rest ≤ 0 → keptBytes A bytes ≡ bytes
+    go [] e l = sym (e ∙ append-nil (keptBytes A bytes))
+    go (x ∷ rest) e l = absurd (omega arith)
+
 pub kept-fits : (A : ℕ) (bytes : List ℕ) → length (keptBytes A bytes) ≤ length bytes
 kept-fits A bytes =
     let h = kept-begins A bytes in

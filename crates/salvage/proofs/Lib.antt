@@ -4,6 +4,7 @@ pub mod Answers
 pub mod Saving
 pub mod Refusing
 pub mod Sound
+pub mod OnlySound
 pub mod Longer
 pub mod Settled
 pub mod Examples

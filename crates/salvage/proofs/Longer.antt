@@ -1,4 +1,4 @@
--- A file and its first 2,048 bytes differ in what is cut off alone: header and samples end within them. Assumes nothing.
+-- A file and its first bytes, as many as a program reads, differ in what is cut off alone: header and samples end within them. Assumes nothing.
 use Prim.Native.Nat.{ℕ, zero, suc, _+_, _-_, _≤_}
 use native.Mathlib.Omega.{arith}
 use mathlib.Core.Path.{_≡_, refl, sym, ap, _∙_}
@@ -16,9 +16,9 @@ use Rattle.sitting_file.specs.declared.Heading.{Heading}
 use Rattle.sitting_file.specs.declared.Heading.the-variants.{Whole, Faulty}
 use Rattle.sitting_file.proofs.LongInput.{same-header}
 use Rattle.sitting_file.proofs.Stages.{header-read}
-use Rattle.salvage.specs.Salvage.{firstBytes, secondBytes, cutOff, Saved, savedOf, salvageOf}
+use Rattle.salvage.specs.Salvage.{firstBytes, secondBytes, cutOff, Saved, savedFrom, savedOf, salvageOf}
 use Rattle.salvage.specs.Saving.{cutMore, FirstBytesSave}
-use Rattle.salvage.proofs.Parts.{savedFrom, saved-same}
+use Rattle.salvage.proofs.Parts.{saved-same}
 
 -- bytes that end before a cut are as they were
 before-cut : (n from bytes : ℕ) (l : List ℕ) → from + n ≤ bytes → take n (drop from (take bytes l)) ≡ take n (drop from l)
@@ -65,7 +65,7 @@ module _ (damaged : List ℕ) (bytes : ℕ) (long : longestFile ≤ bytes) (insi
         by true = refl
         by false = refl
 
-  pub first-save : (room : ℕ) → salvageOf (headerOf damaged) damaged room ≡ cutMore beyond (salvageOf (headerOf part) part room)
+  first-save : (room : ℕ) → salvageOf (headerOf damaged) damaged room ≡ cutMore beyond (salvageOf (headerOf part) part room)
   unfolding salvageOf
   first-save room = by (headerOf damaged) refl ∙ ap (λ (h : Heading). cutMore beyond (salvageOf h part room)) (same-header damaged bytes inside (omega (arith, long)))
     where
@@ -73,6 +73,6 @@ module _ (damaged : List ℕ) (bytes : ℕ) (long : longestFile ≤ bytes) (insi
       by (Faulty why) e = rw e
       by (Whole shape at) e = ap (λ (h : Heading). salvageOf h damaged room) e ∙ answer-more shape at e room ∙ ap (λ (h : Heading). cutMore beyond (salvageOf h part room)) (sym e)
 
--- THEOREM. A file and its first 2,048 bytes differ in what is cut off alone
+-- THEOREM. A file and its first bytes differ in what is cut off alone
 pub first-bytes-save : FirstBytesSave
 first-bytes-save damaged room h = first-save damaged inputBytes (omega arith) h room

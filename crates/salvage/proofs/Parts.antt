@@ -7,17 +7,11 @@ use lib.ListN.{length, take, drop, length-drop}
 use lib.Seq.{drop-drop}
 use Rattle.replay.specs.Table.{Outcome}
 use Rattle.sitting_file.specs.declared.Shape.{Shape}
-use Rattle.writing.specs.Writing.{fileOf, WritesFile}
-use Rattle.salvage.specs.Salvage.{firstBytes, secondBytes, keptBytes, firstKept, secondKept, goneOf, cutOff, lostOf, Saved, savedOf}
+use Rattle.writing.specs.Writing.{WritesFile}
+use Rattle.salvage.specs.Salvage.{firstBytes, secondBytes, keptBytes, firstKept, secondKept, goneOf, cutOff, savedFrom, savedOf}
 use Rattle.salvage.specs.declared.Gone.{Gone}
 
 -- ---- the same bytes, the same file and losses
-
-abbrev pub savedFrom : Shape → List ℕ → List ℕ → ℕ → Saved
-savedFrom shape us vs cut = record {
-  file = fileOf (shape .alphabet) (shape .depth) (keptBytes (shape .alphabet) us) (keptBytes (shape .alphabet) vs);
-  lost = record { first = goneOf (shape .alphabet) (shape .first) us; second = goneOf (shape .alphabet) (shape .second) vs; cut = cut };
-}
 
 pub saved-same : (shape : Shape) (body us vs : List ℕ) (cut : ℕ) → firstBytes shape body ≡ us → secondBytes shape body ≡ vs → cutOff shape body ≡ cut → savedOf shape body ≡ savedFrom shape us vs cut
 saved-same shape body us vs cut d e f = ap₂ (λ (xs ys : List ℕ). savedFrom shape xs ys (cutOff shape body)) d e ∙ ap (savedFrom shape us vs) f
@@ -39,7 +33,7 @@ module _ (damaged : List ℕ) (shape : Shape) (at : ℕ) where
       ap₂ (λ (m d : ℕ). record { missing = m; dropped = d }) (t .0 ∙ ap (λ (l : List ℕ). wanted - length l) e) (t .1 ∙ ap₂ (λ (l k : List ℕ). length l - length k) e f)
 
   pub lost-told : (g h : Gone) (cut : ℕ) → g ≡ goneOf A (shape .first) (firstBytes shape (drop at damaged)) → h ≡ goneOf A (shape .second) (secondBytes shape (drop at damaged))
-      → cut ≡ length damaged - (at + shape .first + shape .second) → record { first = g; second = h; cut = cut } ≡ lostOf shape (drop at damaged)
+      → cut ≡ length damaged - (at + shape .first + shape .second) → record { first = g; second = h; cut = cut } ≡ savedOf shape (drop at damaged) .lost
   lost-told g h cut d e f =
       let c : cut ≡ cutOff shape (drop at damaged) = omega (arith, f, length-drop (shape .first + shape .second) (drop at damaged), length-drop at damaged) in
       ap₂ (λ (x y : Gone). record { first = x; second = y; cut = cut }) d e ∙ ap (λ (k : ℕ). record { first = goneOf A (shape .first) (firstBytes shape (drop at damaged)); second = goneOf A (shape .second) (secondBytes shape (drop at damaged)); cut = k }) c

@@ -1,9 +1,9 @@
--- A salvage is refused as the reader refuses the file, never with 16, or for too few bytes; as many as the damaged file has are enough. Assumes nothing.
+-- A faulty header is refused as the reader does, never with 16, and else only too few bytes are; as many as the damaged file has are enough. Assumes nothing.
 use Prim.Native.Nat.{ℕ, _+_, _≤_}
 use native.Mathlib.Decide.{decLt}
 use native.Mathlib.Omega.{arith}
 use mathlib.Core.Path.{_≡_, refl, sym, ap, _∙_}
-use mathlib.Core.Logic.{inl, inr}
+use mathlib.Core.Logic.{_⊎_, inl, inr}
 use mathlib.Core.Bool.{Bool, true, false, cond}
 use mathlib.Core.List.{List, []}
 use lib.Dec.{ltb}
@@ -22,7 +22,7 @@ use Rattle.sitting_file.proofs.AnswerTrue.{header-place}
 use Rattle.sitting_file.proofs.Stages.{header-fault, header-read}
 use Rattle.writing.proofs.Sizes.{one-long, two-long, at-most-two, file-long, file-fits}
 use Rattle.salvage.specs.Salvage.{firstBytes, secondBytes, firstKept, secondKept, Saved, savedOf, salvageLines, salvageOf}
-use Rattle.salvage.specs.Saving.{nothingLost, ReadersOr19, AsTheReader, NeverLonger, LongestEnough}
+use Rattle.salvage.specs.Saving.{nothingLost, AsTheReader, NoOther, NeverLonger, LongestEnough}
 use Rattle.salvage.proofs.Keeping.{kept-fits}
 use Rattle.salvage.proofs.Answers.{kept-good, saved-answers}
 
@@ -34,17 +34,26 @@ unfolding salvageOf verdictOf
 by-lines (Faulty why) damaged room = (record { file = []; lost = nothingLost }, refl)
 by-lines (Whole shape at) damaged room = (savedOf shape (drop at damaged), refl)
 
--- THEOREM. "refused as the reader does", never with 16; or with 19
+-- THEOREM. A faulty header "is refused as the reader does", and never with 16
 pub as-the-reader : AsTheReader
-unfolding salvageOf bodyOf verdictOf
-as-the-reader damaged before after n w = go (headerOf damaged) refl (w .answers)
+unfolding salvageOf bodyOf
+as-the-reader damaged before after o w why q = record {
+  same-number = w .answers ∙ ap (λ (h : Heading). salvageOf h damaged (length before)) q;
+  read-so = ap (bodyOf damaged) q;
+  not-16 = header-fault damaged why q;
+}
+
+-- THEOREM. Any other refusal is 19
+pub no-other : NoOther
+unfolding salvageOf verdictOf
+no-other damaged before after n w = go (headerOf damaged) refl (w .answers)
   where
     short : (t : Bool) (s : Saved) → refused n ≡ cond t (refused 19) (answered s) → n ≡ 19
     short true s e = number-same e
     short false s e = no-refusal refl (sym e)
 
-    go : (h : Heading) → headerOf damaged ≡ h → refused n ≡ salvageOf h damaged (length before) → ReadersOr19 damaged n
-    go (Faulty why) q e = inl (why, ap (bodyOf damaged) q, number-same e, header-fault damaged why q)
+    go : (h : Heading) → headerOf damaged ≡ h → refused n ≡ salvageOf h damaged (length before) → ((why : Refusal) × (headerOf damaged ≡ Faulty why) × (n ≡ format.refusalNumber why)) ⊎ (n ≡ 19)
+    go (Faulty why) q e = inl (why, q, number-same e)
     go (Whole shape at) q e = inr (short (ltb (length before) (length (savedOf shape (drop at damaged) .file))) (savedOf shape (drop at damaged)) e)
 
 -- ---- how long the saved file is
@@ -70,7 +79,7 @@ module _ (damaged : List ℕ) (bytes : Bytes damaged) (shape : Shape) (at : ℕ)
       let d = one-long (shape .depth) (omega (arith, l .depth-high)) in
       header-place damaged bytes shape at whole ∙ simp length-append (omega (arith, a, d))
 
-  pub no-longer : length (savedOf shape body .file) ≤ length damaged
+  no-longer : length (savedOf shape body .file) ≤ length damaged
   no-longer =
       let n = shape .first in
       let m = shape .second in

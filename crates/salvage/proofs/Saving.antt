@@ -14,7 +14,7 @@ use Rattle.sitting_file.specs.declared.Heading.the-variants.{Whole, Faulty}
 use Rattle.sitting_file.proofs.Stages.{header-read}
 use Rattle.writing.specs.RoundTrips.{ReadsAs}
 use Rattle.writing.proofs.RoundTrip.{file-reads}
-use Rattle.salvage.specs.Salvage.{firstBytes, secondBytes, keptBytes, cutOff, Saved, savedOf, salvageLines, salvageOf}
+use Rattle.salvage.specs.Salvage.{firstBytes, secondBytes, keptBytes, cutOff, Saved, savedOf, salvageLines, salvageOf, Salvages}
 use Rattle.salvage.specs.Saving.{Saves, EachSaves}
 use Rattle.salvage.proofs.Keeping.{kept-begins, kept-fits}
 use Rattle.salvage.proofs.Answers.{kept-good}
@@ -33,6 +33,10 @@ behind damaged room s e = go (headerOf damaged) refl e
     go : (h : Heading) → headerOf damaged ≡ h → answered s ≡ salvageOf h damaged room → Behind damaged s
     go (Faulty why) q e = no-refusal refl e
     go (Whole shape at) q e = record { shape = shape; place = at; header = q; same = answers-none (salvageLines (Whole shape at) damaged room) (savedOf shape (drop at damaged)) s (sym e) .1 }
+
+-- the saved file stands at the start of what is left
+pub file-at-start : (damaged before after : List ℕ) (s : Saved) → Salvages damaged before (answered s) after → take (length (s .file)) after ≡ s .file
+file-at-start damaged before after s w = ap (take (length (s .file))) (w .file-written s refl) ∙ take-at (s .file) (drop (length (s .file)) before) (length (s .file)) refl
 
 -- a sample's kept bytes with those that are missing and dropped
 made-up : (A wanted : ℕ) (bytes : List ℕ) → length bytes ≤ wanted → length (keptBytes A bytes) + (wanted - length bytes) + (length bytes - length (keptBytes A bytes)) ≡ wanted
@@ -77,6 +81,5 @@ module _ (damaged : List ℕ) (shape : Shape) (at : ℕ) (whole : headerOf damag
 pub each-saves : EachSaves
 each-saves damaged before after s w =
     let b = behind damaged (length before) s (w .answers) in
-    let left : take (length (s .file)) after ≡ s .file = ap (take (length (s .file))) (w .file-written s refl) ∙ take-at (s .file) (drop (length (s .file)) before) (length (s .file)) refl in
     subst (λ (t : Saved). Saves damaged t after) (b .same)
-    (saves damaged (b .shape) (b .place) (b .header) after (subst (λ (t : Saved). take (length (t .file)) after ≡ t .file) (sym (b .same)) left))
+    (saves damaged (b .shape) (b .place) (b .header) after (subst (λ (t : Saved). take (length (t .file)) after ≡ t .file) (sym (b .same)) (file-at-start damaged before after s w)))

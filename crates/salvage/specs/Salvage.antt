@@ -36,6 +36,7 @@ unfoldable pub keptBytes : ℕ → List ℕ → List ℕ
 keptBytes A [] = []
 keptBytes A (b ∷ bs) = cond (ltb b A) (b ∷ keptBytes A bs) []
 
+-- of each sample
 abbrev pub firstKept : Shape → List ℕ → List ℕ
 firstKept shape body = keptBytes (shape .alphabet) (firstBytes shape body)
 
@@ -52,12 +53,9 @@ goneOf A wanted bytes = record { missing = wanted - length bytes; dropped = leng
 abbrev pub cutOff : Shape → List ℕ → ℕ
 cutOff shape body = length (drop (shape .first + shape .second) body)
 
-abbrev pub lostOf : Shape → List ℕ → Lost
-lostOf shape body = record {
-  first = goneOf (shape .alphabet) (shape .first) (firstBytes shape body);
-  second = goneOf (shape .alphabet) (shape .second) (secondBytes shape body);
-  cut = cutOff shape body;
-}
+-- the five numbers in their order: missing and dropped of the first, of the second, cut off
+abbrev pub lossNumbers : Lost → List ℕ
+lossNumbers lost = lost .first .missing ∷ lost .first .dropped ∷ lost .second .missing ∷ lost .second .dropped ∷ lost .cut ∷ []
 
 -- ---- the answer
 
@@ -66,12 +64,16 @@ pub record Saved : Type 0 where
   pub file : List ℕ
   pub lost : Lost
 
--- "The tool writes a valid file with the shorter lengths."
-abbrev pub savedOf : Shape → List ℕ → Saved
-savedOf shape body = record {
-  file = fileOf (shape .alphabet) (shape .depth) (firstKept shape body) (secondKept shape body);
-  lost = lostOf shape body;
+-- by the bytes of each sample and how many are cut off: "The tool writes a valid file with the shorter lengths."
+abbrev pub savedFrom : Shape → List ℕ → List ℕ → ℕ → Saved
+savedFrom shape xs ys cut = record {
+  file = fileOf (shape .alphabet) (shape .depth) (keptBytes (shape .alphabet) xs) (keptBytes (shape .alphabet) ys);
+  lost = record { first = goneOf (shape .alphabet) (shape .first) xs; second = goneOf (shape .alphabet) (shape .second) ys; cut = cut };
 }
+
+-- of the bytes after the header
+abbrev pub savedOf : Shape → List ℕ → Saved
+savedOf shape body = savedFrom shape (firstBytes shape body) (secondBytes shape body) (cutOff shape body)
 
 -- "13 to 15 for the header, then 19 for a short buffer": of so many bytes
 abbrev pub salvageLines : Heading → List ℕ → ℕ → List Line
@@ -89,9 +91,9 @@ refusalNumber (Header why) = format.refusalNumber why
 refusalNumber BufferShort = 19
 
 -- the answer where the writer's to what is kept is this: it refuses too few bytes alone
-abbrev pub toldBy : Writing → Lost → Salvaged
-toldBy (writer.Length size) lost = File size lost
-toldBy (writer.Refused why) lost = Refused BufferShort
+abbrev pub salvagedBy : Writing → Lost → Salvaged
+salvagedBy (writer.Length size) lost = File size lost
+salvagedBy (writer.Refused why) lost = Refused BufferShort
 
 -- what an answer says beside the bytes that were left: the file at their start and what is lost, or the refusal's number
 abbrev pub salvageOutcome : Salvaged → List ℕ → Outcome Saved

@@ -1,4 +1,4 @@
--- What document 02, E12, says of every salvage, in its words. Proved in proofs/Saving. Assumes nothing.
+-- What document 02, E12, says of every salvage, and what follows. Proved in proofs/Saving, Sound, Refusing and Longer. Assumes nothing.
 use Prim.Native.Nat.{ℕ, _+_, _-_, _≤_}
 use mathlib.Core.Path.{_≡_}
 use mathlib.Core.Logic.{_⊎_}
@@ -13,7 +13,7 @@ use Rattle.sitting_file.specs.Verdict.{Bytes}
 use Rattle.sitting_file.specs.declared.Shape.{Shape}
 use Rattle.sitting_file.specs.declared.Refusal as file
 use Rattle.sitting_file.specs.declared.Refusal.the-variants.{BytesLeft}
-use Rattle.sitting_file.specs.declared.Heading.the-variants.{Whole}
+use Rattle.sitting_file.specs.declared.Heading.the-variants.{Whole, Faulty}
 use Rattle.sitting_file.specs.declared.Reading.the-variants.{Accepted, Refused}
 use Rattle.writing.specs.RoundTrips.{ReadsAs}
 use Rattle.salvage.specs.Salvage.{firstBytes, secondBytes, Saved, salvageOf, Salvages}
@@ -60,15 +60,26 @@ SoundSame = (file : List ℕ) (shape : Shape) → Bytes file → readOf file ≡
     → (before after : List ℕ) (o : Outcome Saved) → length file ≤ length before → Salvages file before o after
     → (o ≡ answered (record { file = file; lost = nothingLost })) × (after ≡ file ++ drop (length file) before)
 
+-- and no other file comes out with zeros
+abbrev pub OnlySound : Type 0
+OnlySound = (damaged before after : List ℕ) (s : Saved) → Bytes damaged → Salvages damaged before (answered s) after → s .lost ≡ nothingLost
+    → (s .file ≡ damaged) × ((shape : Shape) × (readOf damaged ≡ Accepted shape))
+
 -- ---- refusals
 
--- the number that the reader gives the file, which is not 16; or 19
-abbrev pub ReadersOr19 : List ℕ → ℕ → Type 0
-ReadersOr19 damaged n = ((why : file.Refusal) × (readOf damaged ≡ Refused why) × (n ≡ format.refusalNumber why) × (why ≡ BytesLeft → ⊥)) ⊎ (n ≡ 19)
+-- an answer to a file with such a fault in its header: the number that the reader gives the file, which is not 16
+pub record RefusedAsRead (damaged : List ℕ) (why : file.Refusal) (o : Outcome Saved) : Type 0 where
+  pub same-number : o ≡ refused (format.refusalNumber why)
+  pub read-so : readOf damaged ≡ Refused why
+  pub not-16 : why ≡ BytesLeft → ⊥
 
 -- "A header of four numbers that cannot be read within limits is refused as the reader does"
 abbrev pub AsTheReader : Type 0
-AsTheReader = (damaged before after : List ℕ) (n : ℕ) → Salvages damaged before (refused n) after → ReadersOr19 damaged n
+AsTheReader = (damaged before after : List ℕ) (o : Outcome Saved) → Salvages damaged before o after → (why : file.Refusal) → headerOf damaged ≡ Faulty why → RefusedAsRead damaged why o
+
+-- "13 to 15 for the header, then 19": a refusal is the header's fault, or 19
+abbrev pub NoOther : Type 0
+NoOther = (damaged before after : List ℕ) (n : ℕ) → Salvages damaged before (refused n) after → ((why : file.Refusal) × (headerOf damaged ≡ Faulty why) × (n ≡ format.refusalNumber why)) ⊎ (n ≡ 19)
 
 -- as many bytes as the damaged file has are never too few
 abbrev pub NeverLonger : Type 0
@@ -88,7 +99,7 @@ abbrev pub cutMore : ℕ → Outcome Saved → Outcome Saved
 cutMore k (answered s) = answered (record { file = s .file; lost = lostMore k (s .lost) })
 cutMore k (refused n) = refused n
 
--- a file and its first 2,048 bytes differ in what is cut off alone, and by as many bytes as follow
+-- a file and as many of its first bytes as a program reads differ in what is cut off alone, and by as many bytes as follow
 abbrev pub FirstBytesSave : Type 0
 FirstBytesSave = (damaged : List ℕ) (room : ℕ) → inputBytes ≤ length damaged
     → salvageOf (headerOf damaged) damaged room ≡ cutMore (length damaged - inputBytes) (salvageOf (headerOf (take inputBytes damaged)) (take inputBytes damaged) room)

@@ -4,7 +4,7 @@ ghost use Prim.Native.Nat.{_+_, _-_, _≤_};
 ghost use lib.ListN.{take, drop};
 ghost use Rattle.sitting_file.specs.Format.{headerOf};
 ghost use Rattle.sitting_file.specs.declared.Heading.the-variants.{Whole};
-ghost use Rattle.salvage.specs.Salvage.{keptBytes, refusalNumber, toldBy, salvageOutcome, Within, Salvages};
+ghost use Rattle.salvage.specs.Salvage.{keptBytes, refusalNumber, salvagedBy, salvageOutcome, Within, Salvages};
 use sitting_file::Heading;
 use sitting_file::Shape;
 use sitting_file::header;
@@ -72,15 +72,15 @@ fn save(damaged: &[u8], shape: Shape, at: usize, file: &mut [u8]) -> Salvaged
         second: gone_of(m, second.len(), second_kept.len()),
         cut: past(damaged.len(), at + n + m),
     };
-    told(
+    salvaged_by(
         write(first_kept, second_kept, shape.alphabet, shape.depth, file),
         lost,
     )
 }
 
 // The answer where the writer's to what is kept is this.
-fn told(written: Writing, lost: Lost) -> Salvaged
-    ensures { λ r. ⌜ r ≡ toldBy written lost ⌝ }
+fn salvaged_by(written: Writing, lost: Lost) -> Salvaged
+    ensures { λ r. ⌜ r ≡ salvagedBy written lost ⌝ }
 {
     match written {
         Writing::Refused(_) => Salvaged::Refused(Refusal::BufferShort),
@@ -117,14 +117,14 @@ fn kept(bytes: &[u8], alphabet: u32) -> &[u8]
     bytes
 }
 
-// What is gone of a sample of which so many bytes were wanted, were there and were kept.
-fn gone_of(wanted: usize, there: usize, kept: usize) -> Gone
-    requires { ⌜ (there ≤ wanted) × (kept ≤ there) ⌝ }
-    ensures { λ r. ⌜ (r .missing ≡ wanted - there) × (r .dropped ≡ there - kept) ⌝ }
+// What is gone of a sample of which so many bytes were wanted, were there and were saved.
+fn gone_of(wanted: usize, there: usize, saved: usize) -> Gone
+    requires { ⌜ (there ≤ wanted) × (saved ≤ there) ⌝ }
+    ensures { λ r. ⌜ (r .missing ≡ wanted - there) × (r .dropped ≡ there - saved) ⌝ }
 {
     Gone {
         missing: (wanted - there) as u64,
-        dropped: (there - kept) as u64,
+        dropped: (there - saved) as u64,
     }
 }
 

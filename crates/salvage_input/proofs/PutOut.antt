@@ -19,7 +19,7 @@ use Rattle.salvage.specs.declared.Salvaged.the-variants.{File, Refused}
 use Rattle.salvage.proofs.Saving.{each-saves}
 use Rattle.printing.specs.Text.{refusalText}
 use Rattle.printing.specs.Putting.{Printed}
-use Rattle.salvage_input.specs.Filter.{lossText, lineFor, fileFor, salvaged, PutsOut}
+use Rattle.salvage_input.specs.Filter.{lossText, lineFor, fileFor, savedInput, PutsOut}
 
 -- ---- what was salvaged, put out
 
@@ -45,22 +45,22 @@ module _ (bytes file line : List ℕ) (room : length file ≡ inputBytes) (beyon
   Said x = Salvages bytes file (salvageOutcome x file′) file′ × Within x file′
 
   -- what it says is what is salvaged of the bytes
-  says : (x : Salvaged) → Said x → salvageOutcome x file′ ≡ salvaged bytes
+  says : (x : Salvaged) → Said x → salvageOutcome x file′ ≡ savedInput bytes
   says x w = w .0 .answers ∙ ap (salvageOf (headerOf bytes) bytes) room
 
   -- a refusal and its line
   pub refused-out : (x : Salvaged) (why : Refusal) (line′ : List ℕ) (end : ℕ) → Said x → x ≡ Refused why → Printed (refusalText (refusalNumber why)) line line′ end
-      → PutsOut (cutMore beyond (salvaged bytes)) file line (record { file = 0; line = end }) file′ line′
+      → PutsOut (cutMore beyond (savedInput bytes)) file line (record { file = 0; line = end }) file′ line′
   unfolding fileFor lineFor
   refused-out x why line′ end w e p =
-      let same : refused (refusalNumber why) ≡ salvaged bytes = sym (ap (λ (y : Salvaged). salvageOutcome y file′) e) ∙ says x w in
+      let same : refused (refusalNumber why) ≡ savedInput bytes = sym (ap (λ (y : Salvaged). salvageOutcome y file′) e) ∙ says x w in
       let stays : file′ ≡ file = w .0 .refused-stays (refusalNumber why) (ap (λ (y : Salvaged). salvageOutcome y file′) e) in
       subst (λ (o : Outcome Saved). PutsOut (cutMore beyond o) file line (record { file = 0; line = end }) file′ line′) same
       (record { its-file = subst (λ (l : List ℕ). Printed [] file l 0) (sym stays) (none-printed file); its-line = p })
 
   -- a saved file and the line of what was lost
   pub saved-out : (x : Salvaged) (size : ℕ) (lost : Lost) (line′ : List ℕ) (end : ℕ) → Said x → x ≡ File size lost → Printed (lossText (lostMore beyond lost)) line line′ end
-      → PutsOut (cutMore beyond (salvaged bytes)) file line (record { file = size; line = end }) file′ line′
+      → PutsOut (cutMore beyond (savedInput bytes)) file line (record { file = size; line = end }) file′ line′
   unfolding fileFor lineFor
   saved-out x size lost line′ end w e p =
       let s : Saved = record { file = take size file′; lost = lost } in
@@ -70,7 +70,7 @@ module _ (bytes file line : List ℕ) (room : length file ≡ inputBytes) (beyon
       (record { its-file = file-printed file file′ (take size file′) size within refl (w .0 .file-written s said); its-line = p })
 
 -- at most as much as a sample may have
-abbrev pub FewLost : Lost → Type 0
+abbrev FewLost : Lost → Type 0
 FewLost lost = (lost .first .missing ≤ longest) × (lost .first .dropped ≤ longest) × (lost .second .missing ≤ longest) × (lost .second .dropped ≤ longest)
 
 pub few-lost : (damaged before after : List ℕ) (s : Saved) → Salvages damaged before (answered s) after → FewLost (s .lost)

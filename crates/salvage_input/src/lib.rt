@@ -9,7 +9,7 @@ ghost use Rattle.printing.specs.Putting.{Printed};
 ghost use Rattle.salvage.specs.Saving.{lostMore};
 ghost use Rattle.salvage_input.specs.Filter.{mostTold, lossText, FiltersInput};
 use printing::TEXT_BYTES;
-use printing::put_numbers;
+use printing::put_five;
 use printing::put_refusal;
 use salvage::Lost;
 use salvage::Salvaged;
@@ -17,7 +17,7 @@ use sitting_file::INPUT_BYTES;
 use sitting_file::judged_bytes;
 
 // How many bytes the saved file and the line have.
-pub struct Ends {
+pub struct Lengths {
     pub file: usize,
     pub line: usize,
 }
@@ -33,7 +33,7 @@ pub fn salvage_input(
     beyond: u64,
     file: &mut [u8; INPUT_BYTES],
     line: &mut [u8; TEXT_BYTES],
-) -> Ends
+) -> Lengths
     ensures { λ r. ⌜ FiltersInput (now (input .entry)) many beyond (now (file .entry)) (now (line .entry)) r (now (file .exit)) (now (line .exit)) ⌝ }
 {
     salvage_read(input, many, beyond, file, line)
@@ -46,17 +46,17 @@ fn salvage_read(
     beyond: u64,
     file: &mut [u8],
     line: &mut [u8; TEXT_BYTES],
-) -> Ends
+) -> Lengths
     requires { ⌜ (length (now input) ≡ inputBytes) × (length (now file) ≡ inputBytes) ⌝ }
     ensures { λ r. ⌜ FiltersInput (now (input .entry)) many beyond (now (file .entry)) (now (line .entry)) r (now (file .exit)) (now (line .exit)) ⌝ }
 {
     let end = judged_bytes(many);
     match salvage::salvage(&input[..end], file) {
-        Salvaged::Refused(why) => Ends {
+        Salvaged::Refused(why) => Lengths {
             file: 0,
             line: put_refusal(line, salvage::refusal_number(why)),
         },
-        Salvaged::File(size, lost) => Ends {
+        Salvaged::File(size, lost) => Lengths {
             file: size,
             line: put_losses(line, lost, beyond),
         },
@@ -74,7 +74,7 @@ fn put_losses(line: &mut [u8; TEXT_BYTES], lost: Lost, beyond: u64) -> usize
         lost.second.missing as u32,
         lost.second.dropped as u32,
     ];
-    put_numbers(line, &numbers, cut_told(lost.cut, beyond))
+    put_five(line, &numbers, cut_told(lost.cut, beyond))
 }
 
 // How many bytes are told as cut off.

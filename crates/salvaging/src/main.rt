@@ -8,8 +8,11 @@ use printing::TEXT_BYTES;
 use salvage_input::MOST_TOLD;
 use sitting_file::INPUT_BYTES;
 
-// How many bytes the next read finds.
-fn count_some() -> u64
+// How many bytes are read at a time to be counted.
+const PIECE: u64 = 65536;
+
+// How many bytes the next reading finds: a piece, or fewer where the input ends.
+fn count_piece() -> u64
     ensures { λ r. ⌜ r ≤ 65536 ⌝ }
 {
     let mut space = io::large_buffer();
@@ -20,16 +23,17 @@ fn count_some() -> u64
 fn count_beyond() -> u64 {
     let mut counted: u64 = 0;
     while counted < MOST_TOLD {
-        let more = count_some();
-        if more == 0 {
+        let piece = count_piece();
+        counted += piece;
+        if piece < PIECE {
             break;
         }
-        counted += more;
     }
     counted
 }
 
-// Reads, lends and writes: what is written is what all of standard input asks for (salvage_input/specs/Filter `FiltersInput`).
+// Reads, counts, lends and writes. Of the bytes read and the count, what is put out is what all of standard input asks for (salvage_input/specs/Filter
+// `FiltersInput`); that these are the input's is not proved, as nothing is of reading.
 fn main() {
     let mut input = [0u8; INPUT_BYTES];
     let many = io::read_full(STDIN_FILENO, &mut input);

@@ -89,6 +89,13 @@ module _ (file : List ℕ) where
   unfolding Heads
   header-place bytes shape at e = subst Heads e (header-true bytes) .place
 
+  -- and the file is these and the bytes behind them
+  pub header-bytes : Bytes file → (shape : Shape) (at : ℕ) → headerOf file ≡ Whole shape at → file ≡ written (withHeader shape []) ++ drop at file
+  unfolding Heads
+  header-bytes bytes shape at e =
+      let r = subst Heads e (header-true bytes) in
+      r .split ∙ ap (λ (l : List ℕ). written (withHeader shape []) ++ l) (sym (here (withHeader shape []) at r))
+
   pub answer-true : Bytes file → Verdict file (readOf file)
   unfolding bodyOf Heads
   answer-true bytes = go (headerOf file) (header-true bytes)

@@ -1,4 +1,4 @@
--- Standard input read into a buffer of 2,048 bytes. Assumes nothing.
+-- Standard input read into a program's buffer. Assumes nothing.
 use Prim.Native.Nat.{ℕ, min}
 use native.Mathlib.Decide.{decLe}
 use native.Mathlib.Omega.{arith}
@@ -8,7 +8,7 @@ use lib.ListN.{length, take}
 use lib.Seq.{take-all}
 use Rattle.sitting_file.specs.Input.{inputBytes, ReadInto}
 
--- what was read into a buffer of 2,048 bytes are the input's first 2,048
+-- what was read into the buffer are as many of the input's first bytes as it has
 pub first-read : (stdin buffer : List ℕ) (many : ℕ) → length buffer ≡ inputBytes → ReadInto stdin buffer many → take many buffer ≡ take inputBytes stdin
 first-read stdin buffer many long r = r .bytes ∙ elim (decLe (length stdin) inputBytes) [
   | yes h ↦ take-all many stdin (omega (arith, r .count)) ∙ sym (take-all inputBytes stdin h)

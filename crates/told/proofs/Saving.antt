@@ -9,7 +9,7 @@ use lib.Seq.{length-take-le}
 use Rattle.replay.specs.Table.{Outcome, refused, answered}
 use Rattle.sitting_file.specs.Format.{readOf}
 use Rattle.sitting_file.specs.Verdict.{Bytes}
-use Rattle.salvage.specs.Salvage.{Saved, refusalNumber, salvageOutcome, Within, Salvages}
+use Rattle.salvage.specs.Salvage.{lossNumbers, Saved, refusalNumber, salvageOutcome, Within, Salvages}
 use Rattle.salvage.specs.Saving.{Saves}
 use Rattle.salvage.specs.declared.Lost.{Lost}
 use Rattle.salvage.specs.declared.Refusal.{Refusal}
@@ -17,16 +17,12 @@ use Rattle.salvage.specs.declared.Salvaged.{Salvaged}
 use Rattle.salvage.specs.declared.Salvaged.the-variants as salvaged
 use Rattle.salvage.proofs.Saving.{each-saves}
 use Rattle.salvage.proofs.Sound.{sound-same}
-use Rattle.salvage.proofs.Refusing.{as-the-reader, never-longer}
+use Rattle.salvage.proofs.Refusing.{no-other, never-longer}
 use Rattle.told.specs.Codes.{toldAs, readCode}
 use Rattle.told.specs.Outputs.{sizeAfter, lossesAfter}
 use Rattle.told.specs.Told.{ReadTold, SalvageTold}
 use Rattle.told.proofs.Accepted.{read-accepted}
 use Rattle.told.proofs.Numbers.{fault-above-zero, refused-by}
-
--- the five numbers as they are put out
-abbrev five : Lost → List ℕ
-five lost = lost .first .missing ∷ lost .first .dropped ∷ lost .second .missing ∷ lost .second .dropped ∷ lost .cut ∷ []
 
 -- ---- from the call's own promise
 module _ {damaged before after : List ℕ} {old : ℕ} {was : List ℕ} (x : Salvaged) (p : Salvages damaged before (salvageOutcome x after) after × Within x after) where
@@ -39,7 +35,7 @@ module _ {damaged before after : List ℕ} {old : ℕ} {was : List ℕ} (x : Sal
     lost = sym (ap (λ (a : Salvaged). lossesAfter (salvageOutcome a after) was) e);
   }
 
-  pub salvage-told : {size : ℕ} {lost : Lost} → x ≡ salvaged.File size lost → SalvageTold damaged before 0 after old size was (five lost)
+  pub salvage-told : {size : ℕ} {lost : Lost} → x ≡ salvaged.File size lost → SalvageTold damaged before 0 after old size was (lossNumbers lost)
   salvage-told {size} e = record {
     answer = salvageOutcome x after;
     promise = p .0;
@@ -53,14 +49,14 @@ pub record SavedOut (damaged before after : List ℕ) (size : ℕ) (losses : Lis
   pub saved : Saved
   pub salvages : Salvages damaged before (answered saved) after
   pub its-size : size ≡ length (saved .file)
-  pub its-losses : losses ≡ five (saved .lost)
+  pub its-losses : losses ≡ lossNumbers (saved .lost)
 
 module _ {damaged before after : List ℕ} {old size : ℕ} {was losses : List ℕ} where
   pub salvage-accepted : SalvageTold damaged before 0 after old size was losses → SavedOut damaged before after size losses
   salvage-accepted m = go (m .answer) (m .promise) (m .number) (m .output) (m .lost)
     where
       never : Salvages damaged before (refused 0) after → ⊥
-      never p = elim (as-the-reader damaged before after 0 p) [
+      never p = elim (no-other damaged before after 0 p) [
         | inl h ↦ omega (arith, fault-above-zero (h .0), h .2)
         | inr e ↦ omega (arith, e)
       ]

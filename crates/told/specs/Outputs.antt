@@ -11,7 +11,7 @@ use Rattle.calls.specs.declared.ReportAnswer.{ReportAnswer}
 use Rattle.calls.specs.declared.ReportAnswer.the-variants as written
 use Rattle.sitting_file.specs.declared.Reading.{Reading}
 use Rattle.sitting_file.specs.declared.Reading.the-variants as reading
-use Rattle.salvage.specs.Salvage.{Saved}
+use Rattle.salvage.specs.Salvage.{lossNumbers, Saved}
 use Rattle.chart.specs.declared.Chart.{Chart}
 use Rattle.chart.specs.declared.Chart.the-variants as chart
 use Rattle.calls.specs.declared.ChartAnswer.{ChartAnswer}
@@ -46,9 +46,9 @@ abbrev pub sizeAfter : Outcome Saved → ℕ → ℕ
 sizeAfter (answered s) old = length (s .file)
 sizeAfter (refused why) old = old
 
--- what was lost: missing and dropped of the first sample, of the second, cut off
+-- what was lost of it: five numbers
 abbrev pub lossesAfter : Outcome Saved → List ℕ → List ℕ
-lossesAfter (answered s) old = s .lost .first .missing ∷ s .lost .first .dropped ∷ s .lost .second .missing ∷ s .lost .second .dropped ∷ s .lost .cut ∷ []
+lossesAfter (answered s) old = lossNumbers (s .lost)
 lossesAfter (refused why) old = old
 
 -- which samples saw the context: 0 neither, 1 the first, 2 the second, 3 both

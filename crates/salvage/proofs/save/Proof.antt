@@ -98,8 +98,8 @@ past-requires c κs = search needs
 write-requires : tie.Need-write-requires
 write-requires c κs = search needs
 
-told-requires : tie.Need-told-requires
-told-requires c κs = search needs
+salvaged-by-requires : tie.Need-salvaged-by-requires
+salvaged-by-requires c κs = search needs
 
 same-length : tie.Need-same-length
 same-length c = search needs
@@ -116,7 +116,7 @@ returns c =
     let lost = lost-told (damaged s) (shape s) a _ _ _ g h (p .past .ensures) in
     let wrote = same-written (damaged s) (shape s) a _ _ _ _ _ (first-kept k) (second-kept k) (w .write .ensures) in
     let after = w .write .last .1 .1 .1 .1 .0 in
-    subst (λ (r : Salvaged). Salvages (damaged s) (s .args .file .now) (salvageOutcome r after) after × Within r after) (sym (c .told .ensures))
+    subst (λ (r : Salvaged). Salvages (damaged s) (s .args .file .now) (salvageOutcome r after) after × Within r after) (sym (c .salvaged-by .ensures))
     (saved-by (damaged s) (shape s) a (s .pre) (s .args .file .now) after (w .write .result) _ lost wrote)
 
 pub save-spec : {M : Type 1} → statement M
@@ -136,6 +136,6 @@ save-spec =
     add-past-2
     past-requires
     write-requires
-    told-requires
+    salvaged-by-requires
     same-length
     returns)

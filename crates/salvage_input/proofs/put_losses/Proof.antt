@@ -22,14 +22,11 @@ cast-t7 c = search needs
 cast-t8 : tie.Need-cast-t8
 cast-t8 c = search needs
 
-slice-aggregate-put-numbers : tie.Need-slice-aggregate-put-numbers
-slice-aggregate-put-numbers c = search needs
-
 cut-told-requires : tie.Need-cut-told-requires
 cut-told-requires c κs = search needs
 
-put-numbers-requires : tie.Need-put-numbers-requires
-put-numbers-requires c κs = search needs
+put-five-requires : tie.Need-put-five-requires
+put-five-requires c κs = search needs
 
 returns : tie.Need-returns
 returns c =
@@ -37,17 +34,9 @@ returns c =
     let s = k .before .before .before .before .before .before .before in
     let small : min (s .args .lost .cut + s .args .beyond) mostTold < 9223372036854775808 = omega arith in
     let fits : SFits w64 (k .cut-told .result) = subst (SFits w64) (sym (k .cut-told .ensures)) (record { sfits = small }) in
-    rw (toZ-ofZ fits ∙ k .cut-told .ensures) at (c .put-numbers .ensures)
+    rw (toZ-ofZ fits ∙ k .cut-told .ensures) at (c .put-five .ensures)
 
 pub put-losses-spec : {M : Type 1} → statement M
 put-losses-spec =
     tie.close
-    (tie.spec
-    cast-t5
-    cast-t6
-    cast-t7
-    cast-t8
-    slice-aggregate-put-numbers
-    cut-told-requires
-    put-numbers-requires
-    returns)
+    (tie.spec cast-t5 cast-t6 cast-t7 cast-t8 cut-told-requires put-five-requires returns)

@@ -1,4 +1,4 @@
--- `salvaging::count_beyond` is safe and ends: each turn but the last counts at least one byte. Assumes nothing.
+-- `salvaging::count_beyond` is safe and ends: each turn but the last counts a piece. Assumes nothing.
 use Prim.Native.Nat.{_-_}
 use native.Mathlib.Omega.{arith}
 use borrow.Author.Needs.{needs}
@@ -15,8 +15,8 @@ abbrev μ-loop : tie.MeasureT-loop
 loop-holds : tie.Need-loop-holds Inv-loop μ-loop
 loop-holds c = tt
 
-count-some-requires : tie.Need-count-some-requires Inv-loop μ-loop
-count-some-requires c κs = search needs
+count-piece-requires : tie.Need-count-piece-requires Inv-loop μ-loop
+count-piece-requires c κs = search needs
 
 add-counted : tie.Need-add-counted Inv-loop μ-loop
 add-counted c = search needs
@@ -40,7 +40,7 @@ count-beyond-spec =
     Inv-loop
     μ-loop
     loop-holds
-    count-some-requires
+    count-piece-requires
     add-counted
     loop-less
     loop-again
