@@ -1,4 +1,4 @@
--- What document 02, E12, says of every salvage, and what follows. Proved in proofs/Saving, Sound, Refusing and Longer. Assumes nothing.
+-- What document 02, E12, says of every salvage, and what follows. Proved in proofs/Saving, Sound, OnlySound, Refusing and Longer. Assumes nothing.
 use Prim.Native.Nat.{ℕ, _+_, _-_, _≤_}
 use mathlib.Core.Path.{_≡_}
 use mathlib.Core.Logic.{_⊎_}

@@ -163,8 +163,8 @@ pub extern "C" fn sobumikeyo_salvage(
 {
     match salvage::salvage(damaged, file) {
         Salvaged::Refused(why) => salvage::refusal_number(why),
-        Salvaged::File(size, lost) => {
-            *written = size;
+        Salvaged::File(length, lost) => {
+            *written = length;
             *told = [
                 lost.first.missing,
                 lost.first.dropped,

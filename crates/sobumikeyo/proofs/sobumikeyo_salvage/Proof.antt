@@ -13,8 +13,8 @@ enum-known-why c = search needs
 refusal-number-requires : tie.Need-refusal-number-requires
 refusal-number-requires c κs = search needs
 
-enum-known-size : tie.Need-enum-known-size
-enum-known-size c = search needs
+enum-known-length : tie.Need-enum-known-length
+enum-known-length c = search needs
 
 same-length : tie.Need-same-length
 same-length c = search needs
@@ -31,7 +31,7 @@ returns-2 : tie.Need-returns-2
 returns-2 c =
     let z = c .before .before in
     let w = z .before .before .before .before in
-    salvage-told (w .salvage .result) (w .salvage .ensures) (z .size .given .1)
+    salvage-told (w .salvage .result) (w .salvage .ensures) (z .length .given .1)
 
 pub sobumikeyo-salvage-spec : {M : Type 1} → statement M
 sobumikeyo-salvage-spec =
@@ -40,7 +40,7 @@ sobumikeyo-salvage-spec =
     salvage-requires
     enum-known-why
     refusal-number-requires
-    enum-known-size
+    enum-known-length
     same-length
     returns
     same-length-2
