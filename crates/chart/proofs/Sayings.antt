@@ -6,7 +6,7 @@ use mathlib.Core.Bool.{Bool, true, false}
 use mathlib.Core.List.{List}
 use lib.Dec.{ltb}
 use borrow.Author.Tests.{ltb-true, ltb-false}
-use Rattle.numbers.specs.Limits.{mostCharted}
+use Rattle.numbers.specs.Limits.{mostCounted}
 use Rattle.contexts.specs.Sitting.{Sample, first, second, Sitting, totalIn}
 use Rattle.chart.specs.Share.{share}
 use Rattle.chart.specs.Answer.{told, answer, chartOf}
@@ -14,7 +14,7 @@ use Rattle.chart.specs.Says.{NotSeen, ShareIn, ChartSays}
 use Rattle.chart.proofs.Shares.{share-proper, sitting-charted}
 
 -- ---- a context and a symbol of a sitting
-module _ (x : Sitting) (s : List ℕ) (a : ℕ) (below : a < x .symbols) (most : (i : Sample) → totalIn x i s ≤ mostCharted) where
+module _ (x : Sitting) (s : List ℕ) (a : ℕ) (below : a < x .symbols) (most : (i : Sample) → totalIn x i s ≤ mostCounted) where
   share-in : (i : Sample) → ltb 0 (totalIn x i s) ≡ true → ShareIn x i s a (share (x .count i s a) (totalIn x i s))
   share-in i e =
       let seen = ltb-true 0 (totalIn x i s) e in

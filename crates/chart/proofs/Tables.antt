@@ -2,7 +2,7 @@
 use Prim.Native.Nat.{ℕ, _≤_, _<_}
 use mathlib.Core.Path.{_≡_, _∙_}
 use mathlib.Core.List.{List}
-use Rattle.numbers.specs.Limits.{mostSymbols, mostCharted}
+use Rattle.numbers.specs.Limits.{mostSymbols, mostCounted}
 use Rattle.numbers.specs.Sum.{sum}
 use Rattle.numbers.proofs.Sums.{sum-cong, sum-past}
 use Rattle.contexts.specs.Sitting.{Sample, first, second, Sitting, totalIn, table, countIn}
@@ -19,5 +19,5 @@ module _ (x : Sitting) (s : List ℕ) (few : x .symbols ≤ mostSymbols) (none :
   table-chart a l = rw (table-count x s first a l, table-count x s second a l, table-total first, table-total second)
 
   -- what the code asks of a table, where both totals are within the limit
-  pub table-askable : (a : ℕ) → a < mostSymbols → ((i : Sample) → totalIn x i s ≤ mostCharted) → Chartable (table x s) a
+  pub table-askable : (a : ℕ) → a < mostSymbols → ((i : Sample) → totalIn x i s ≤ mostCounted) → Chartable (table x s) a
   table-askable a l h = record { symbol = l; first = rw (table-total first) (h first); second = rw (table-total second) (h second) }

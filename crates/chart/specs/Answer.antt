@@ -4,7 +4,7 @@ use mathlib.Core.Bool.{Bool, true, false}
 use mathlib.Core.List.{List}
 use lib.Dec.{ltb}
 use lib.Ieee.{Float, binary64, sub}
-use Rattle.numbers.specs.Limits.{mostSymbols, mostCharted}
+use Rattle.numbers.specs.Limits.{mostSymbols, mostCounted}
 use Rattle.numbers.specs.Sum.{sum}
 use Rattle.contexts.specs.Sitting.{Sample, first, second, Sitting, rowIn, countIn, sumOf}
 use Rattle.chart.specs.Share.{share}
@@ -43,5 +43,5 @@ chartIn t a = chartFrom mostSymbols (countIn t) a
 -- what the code asks of a table and a symbol
 pub record Chartable (t : List (List ℕ)) (a : ℕ) : Type 0 where
   pub symbol : a < mostSymbols
-  pub first : sumOf (rowIn t first) ≤ mostCharted
-  pub second : sumOf (rowIn t second) ≤ mostCharted
+  pub first : sumOf (rowIn t first) ≤ mostCounted
+  pub second : sumOf (rowIn t second) ≤ mostCounted

@@ -6,7 +6,7 @@ use mathlib.Core.Logic.{_↔_}
 use lib.Dec.{T}
 use lib.IntN.{pos}
 use lib.Ieee.{Float, fin, binary64, ofInt, div, le}
-use Rattle.numbers.specs.Limits.{mostCharted}
+use Rattle.numbers.specs.Limits.{mostCounted}
 
 -- "share = N(s,a) / N(s) in 64-bit floating point, one division of exact whole numbers": of a count and its total
 abbrev pub share : ℕ → ℕ → Float
@@ -23,7 +23,7 @@ one64 = fin false 1 (pos 0)
 pub record Charted (c t : ℕ) : Type 0 where
   pub part : c ≤ t
   pub seen : 0 < t
-  pub most : t ≤ mostCharted
+  pub most : t ≤ mostCounted
 
 -- "A share lies from 0 to 1; it is 0 exactly when the count is 0 and 1 exactly when the count is the total."
 pub record Proper (c t : ℕ) (r : Float) : Type 0 where

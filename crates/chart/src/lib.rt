@@ -1,7 +1,7 @@
 // The chart answer from the counts of one context: a symbol's share in each sample, and their gap.
 ghost use mathlib.Core.Path.{_≡_};
 ghost use Prim.Native.Nat.{_≤_};
-ghost use Rattle.numbers.specs.Limits.{mostCharted};
+ghost use Rattle.numbers.specs.Limits.{mostCounted};
 ghost use Rattle.contexts.specs.Sitting.{sumOf};
 ghost use Rattle.chart.specs.Share.{share};
 ghost use Rattle.chart.specs.Answer.{pointOf, answer, chartIn, Chartable};
@@ -69,7 +69,7 @@ fn share_of(count: u32, total: u32) -> f64
 
 // What a sample's eight counts add up to.
 fn total_of(row: [u32; 8]) -> u32
-    requires { ⌜ sumOf row ≤ mostCharted ⌝ }
+    requires { ⌜ sumOf row ≤ mostCounted ⌝ }
     ensures { λ r. ⌜ r ≡ sumOf row ⌝ }
 {
     let mut total: u32 = 0;

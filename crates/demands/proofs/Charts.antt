@@ -7,7 +7,7 @@ use mathlib.Core.Bool.{Bool, true, false, not, _||_}
 use mathlib.Core.List.{List}
 use lib.Dec.{eqb, leb, ltb, eqb→eq}
 use borrow.Author.Tests.{leb-false, ltb-false}
-use Rattle.numbers.specs.Limits.{mostCharted}
+use Rattle.numbers.specs.Limits.{mostCounted}
 use Rattle.numbers.proofs.Tests.{left, right, of-true}
 use Rattle.contexts.specs.Context.{isContext, codeOf, decoded}
 use Rattle.contexts.specs.Sitting.{Sample, Progress, sat, totalIn}
@@ -52,7 +52,7 @@ module _ (o : Opening) (len code a : ℕ) where
           }
 
 -- no total of a fitting sitting passes the limit of the shares
-totals-few : (o : Opening) (p : Progress) → SittingFits o p → (s : List ℕ) (i : Sample) → totalIn (sat (o .symbols) (o .depth) p) i s ≤ mostCharted
+totals-few : (o : Opening) (p : Progress) → SittingFits o p → (s : List ℕ) (i : Sample) → totalIn (sat (o .symbols) (o .depth) p) i s ≤ mostCounted
 totals-few o p f s i = omega (arith, f .totals i s, f .sizes i)
 
 same-point : {c e : Chart} → _≡_ {A = Answer} (point c) (point e) → c ≡ e
@@ -86,7 +86,7 @@ own gs d len code a c h =
     let p = h .progress in
     let s = decoded len code in
     let q = asked-of o len code a (h .accepted .0) in
-    let few : (i : Sample) → totalIn (sittingFor o w) i s ≤ mostCharted = λ i. subst (λ (n : ℕ). n ≤ mostCharted) (total-same o w p (h .stands) i s (q .is-context)) (totals-few o p (h .fits) s i) in
+    let few : (i : Sample) → totalIn (sittingFor o w) i s ≤ mostCounted = λ i. subst (λ (n : ℕ). n ≤ mostCounted) (total-same o w p (h .stands) i s (q .is-context)) (totals-few o p (h .fits) s i) in
     record {
       its = h .its;
       context = decoded len code;

@@ -81,7 +81,7 @@ pub L-bound : (j n : ℕ) → n ≤ 2 ^ j → L n ≤ 1024 * j
 L-bound j n h = le-trans (L-mono n (2 ^ j) h) (le-of-eq (L-pow j))
 
 pub L-top : (n : ℕ) → n ≤ mostCounted → L n ≤ topLog
-L-top n h = L-bound 10 n h
+L-top n h = L-bound 12 n h
 
 -- a number times its logarithm
 pub weight-top : (n : ℕ) → n ≤ mostCounted → n * L n ≤ mostCounted * topLog

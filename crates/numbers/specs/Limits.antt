@@ -12,21 +12,17 @@ mostSymbols = 8
 abbrev pub deepest : ℕ
 deepest = 6
 
--- a sample has 0 to 512 symbols
+-- a sample has 0 to 2,048 symbols
 abbrev pub longest : ℕ
-longest = 512
+longest = 2048
 
--- the logarithm is asked for numbers up to twice that
+-- both samples together: no count that the logarithm or the chart is asked for is above it
 abbrev pub mostCounted : ℕ
-mostCounted = 1024
+mostCounted = 4096
 
--- .. and is at most L(1024)
+-- L(4096), the greatest logarithm
 abbrev pub topLog : ℕ
-topLog = 10240
-
--- the chart question is asked of totals up to this: the longest sample that is planned, twice over
-abbrev pub mostCharted : ℕ
-mostCharted = 4096
+topLog = 12288
 
 -- desks 0 to 7
 abbrev pub desks : ℕ

@@ -8,8 +8,8 @@ pub const MOST_SYMBOLS: u32 = 8;
 // D is from 0 to 6.
 pub const DEEPEST: u32 = 6;
 
-// A sample has 0 to 512 symbols.
-pub const LONGEST: u32 = 512;
+// A sample has 0 to 2,048 symbols.
+pub const LONGEST: u32 = 2048;
 
 // Desks 0 to 7.
 pub const DESKS: usize = 8;

@@ -43,7 +43,7 @@ enum Number {
 }
 
 // How many bytes of its input a program reads at most.
-pub const INPUT_BYTES: usize = 2048;
+pub const INPUT_BYTES: usize = 4608;
 
 // A byte below this is the last group of its number.
 pub const HIGH_BIT: u32 = 128;
