@@ -13,7 +13,7 @@ use Rattle.rows.specs.Members.{gather, members}
 use Rattle.replay.specs.Table.{verdictOf}
 use Rattle.printing.specs.Text.{ascii, spelled, lineOf}
 use Rattle.sitting_file.specs.Format as format
-use Rattle.sitting_file.specs.Format.{secondGroup, firstGroup, headerOf, symbolsFrom, bodyOf}
+use Rattle.sitting_file.specs.Format.{secondGroup, firstGroup, headerUpTo, symbolsFrom, bodyOf}
 use Rattle.judgement.specs.Judgement.{sheetNumbers, stringsIn, judged, judgement}
 use Rattle.judgement.specs.Prints.{linesText, textOf}
 
@@ -22,15 +22,15 @@ abbrev pub J3-file : List ℕ
 J3-file = 2 ∷ 1 ∷ 8 ∷ 8 ∷ 0 ∷ 1 ∷ 0 ∷ 1 ∷ 0 ∷ 1 ∷ 0 ∷ 1 ∷ 0 ∷ 0 ∷ 1 ∷ 0 ∷ 0 ∷ 1 ∷ 0 ∷ 0 ∷ []
 
 pub J3-text : textOf (judgement J3-file sheetNumbers) ≡ ascii "2 1 8 8 3 -20176\n1 1 0 0 4\n2 1 0 3 2\n0 1 1 5 0\n"
-unfolding format.judgedNumber secondGroup firstGroup headerOf symbolsFrom bodyOf stringsIn judged verdictOf L sum codeOf N total sumℤ totalℤ spread best joint tree estimate gather members linesText textOf ascii spelled lineOf
+unfolding format.judgedNumber secondGroup firstGroup headerUpTo symbolsFrom bodyOf stringsIn judged verdictOf L sum codeOf N total sumℤ totalℤ spread best joint tree estimate gather members linesText textOf ascii spelled lineOf
 J3-text = refl
 
 -- a file that ends early
 pub empty-text : textOf (judgement [] sheetNumbers) ≡ ascii "refused 13\n"
-unfolding firstGroup headerOf bodyOf judged textOf ascii spelled lineOf
+unfolding firstGroup headerUpTo bodyOf judged textOf ascii spelled lineOf
 empty-text = refl
 
 -- an empty sample
 pub no-sample-text : textOf (judgement (2 ∷ 1 ∷ 0 ∷ 1 ∷ 0 ∷ []) sheetNumbers) ≡ ascii "refused 11\n"
-unfolding format.judgedNumber firstGroup headerOf symbolsFrom bodyOf stringsIn judged verdictOf sum N total textOf ascii spelled lineOf
+unfolding format.judgedNumber firstGroup headerUpTo symbolsFrom bodyOf stringsIn judged verdictOf sum N total textOf ascii spelled lineOf
 no-sample-text = refl

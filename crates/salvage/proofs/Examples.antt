@@ -5,7 +5,7 @@ use mathlib.Core.List.{List, [], _∷_, _++_, map}
 use lib.ListN.{replicate}
 use Rattle.numbers.specs.Limits.{longest}
 use Rattle.replay.specs.Table.{Outcome, refused, answered, verdictOf}
-use Rattle.sitting_file.specs.Format.{judgedNumber, secondGroup, firstGroup, headerOf}
+use Rattle.sitting_file.specs.Format.{judgedNumber, secondGroup, firstGroup, headerUpTo, headerOf}
 use Rattle.sitting_file.specs.Verdict.{shortest}
 use Rattle.salvage.specs.Salvage.{keptBytes, Saved, salvageOf}
 
@@ -51,5 +51,5 @@ examples =
     ∷ []
 
 pub examples-right : map (λ (e : Example). salvageOf (headerOf (e .damaged)) (e .damaged) (e .room)) examples ≡ map (λ (e : Example). e .answer) examples
-unfolding shortest judgedNumber secondGroup firstGroup headerOf keptBytes salvageOf verdictOf
+unfolding shortest judgedNumber secondGroup firstGroup headerUpTo keptBytes salvageOf verdictOf
 examples-right = refl

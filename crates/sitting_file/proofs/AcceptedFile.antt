@@ -22,12 +22,12 @@ use Rattle.numbers.proofs.Orders.{less, same, more, order}
 use Rattle.sitting_file.proofs.Groups.{number-found}
 use Rattle.sitting_file.proofs.Stages.{header-read}
 
-never : {B : Type 0} {why : Refusal} {shape : Shape} → Refused why ≡ Accepted shape → B
+pub never : {B : Type 0} {why : Refusal} {shape : Shape} → Refused why ≡ Accepted shape → B
 never e =
     let z : _≡_ {A = ℕ} 0 1 = cc in
     absurd (omega arith)
 
-shape-same : {s t : Shape} → Accepted s ≡ Accepted t → s ≡ t
+pub shape-same : {s t : Shape} → Accepted s ≡ Accepted t → s ≡ t
 shape-same e = cc
 
 module _ (file : List ℕ) (shape told : Shape) where

@@ -9,7 +9,7 @@ use lib.ListN.{length, drop, length-append}
 use lib.Seq.{drop-append-seam}
 use lib.Dec.{ltb}
 use borrow.Author.Tests.{ltb-true, ltb-false}
-use Rattle.numbers.specs.Limits.{mostSymbols}
+use Rattle.numbers.specs.Limits.{mostSymbols, longest}
 use Rattle.sitting_file.specs.Format.{firstGroup, numberAt, headerOf, symbolsFrom, bodyOf, readOf}
 use Rattle.sitting_file.specs.Verdict.{twoGroups, shortest, written, withHeader, from-to, nothing, dueAfter, Follow, FaultAt, Verdict}
 use Rattle.sitting_file.specs.declared.Shape.{Shape}
@@ -47,7 +47,7 @@ module _ (file : List ℕ) where
       let D = shape .depth in
       let n = shape .first in
       let m = shape .second in
-      header-whole file A _ (found [] A (D ∷ n ∷ m ∷ ss) rest _ _ e (omega arith) (f .0 .0) (f .0 .1)) D _ (found (A ∷ []) D (n ∷ m ∷ ss) rest _ _ e (omega arith) (f .1 .0 .0) (f .1 .0 .1)) n _
+      header-whole longest file A _ (found [] A (D ∷ n ∷ m ∷ ss) rest _ _ e (omega arith) (f .0 .0) (f .0 .1)) D _ (found (A ∷ []) D (n ∷ m ∷ ss) rest _ _ e (omega arith) (f .1 .0 .0) (f .1 .0 .1)) n _
       (found (A ∷ D ∷ []) n (m ∷ ss) rest _ _ e (omega arith) (f .1 .1 .0 .0) (f .1 .1 .0 .1)) m _ (found (A ∷ D ∷ n ∷ []) m ss rest _ _ e (omega arith) (f .1 .1 .1 .0 .0) (f .1 .1 .1 .0 .1))
 
   -- ---- the symbols
@@ -96,16 +96,16 @@ module _ (file : List ℕ) where
 
   refused-only : (why : Refusal) (before rest : List ℕ) → file ≡ written before ++ rest → Follow [] before → FaultAt why (dueAfter before) rest → readOf file ≡ Refused why
   unfolding bodyOf
-  refused-only why [] rest e f g = ap (bodyOf file) (alphabet-refused file why (fault-at [] rest _ _ why e g))
+  refused-only why [] rest e f g = ap (bodyOf file) (alphabet-refused longest file why (fault-at [] rest _ _ why e g))
   refused-only why (A ∷ []) rest e f g =
-      ap (bodyOf file) (depth-refused file A _ (found [] A [] rest _ _ e (omega arith) (f .0 .0) (f .0 .1)) why (fault-at (A ∷ []) rest _ _ why e g))
+      ap (bodyOf file) (depth-refused longest file A _ (found [] A [] rest _ _ e (omega arith) (f .0 .0) (f .0 .1)) why (fault-at (A ∷ []) rest _ _ why e g))
   refused-only why (A ∷ D ∷ []) rest e f g =
       ap (bodyOf file)
-      (first-refused file A _ (found [] A (D ∷ []) rest _ _ e (omega arith) (f .0 .0) (f .0 .1)) D _ (found (A ∷ []) D [] rest _ _ e (omega arith) (f .1 .0 .0) (f .1 .0 .1)) why
+      (first-refused longest file A _ (found [] A (D ∷ []) rest _ _ e (omega arith) (f .0 .0) (f .0 .1)) D _ (found (A ∷ []) D [] rest _ _ e (omega arith) (f .1 .0 .0) (f .1 .0 .1)) why
       (fault-at (A ∷ D ∷ []) rest _ _ why e g))
   refused-only why (A ∷ D ∷ n ∷ []) rest e f g =
       ap (bodyOf file)
-      (second-refused file A _ (found [] A (D ∷ n ∷ []) rest _ _ e (omega arith) (f .0 .0) (f .0 .1)) D _ (found (A ∷ []) D (n ∷ []) rest _ _ e (omega arith) (f .1 .0 .0) (f .1 .0 .1)) n _
+      (second-refused longest file A _ (found [] A (D ∷ n ∷ []) rest _ _ e (omega arith) (f .0 .0) (f .0 .1)) D _ (found (A ∷ []) D (n ∷ []) rest _ _ e (omega arith) (f .1 .0 .0) (f .1 .0 .1)) n _
       (found (A ∷ D ∷ []) n [] rest _ _ e (omega arith) (f .1 .1 .0 .0) (f .1 .1 .0 .1)) why (fault-at (A ∷ D ∷ n ∷ []) rest _ _ why e g))
   refused-only why (A ∷ D ∷ n ∷ m ∷ ss) rest e f g =
       let shape : Shape = record { alphabet = A; depth = D; first = n; second = m } in

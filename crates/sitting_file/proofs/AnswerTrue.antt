@@ -8,7 +8,7 @@ use lib.ListN.{length, drop, length-append}
 use lib.Seq.{drop-at}
 use borrow.Author.Tests.{lt-ltb, le-ltb}
 use Rattle.numbers.specs.Limits.{fewestSymbols, mostSymbols, deepest, longest}
-use Rattle.sitting_file.specs.Format.{firstGroup, numberAt, andThen, headerOf, symbolsFrom, bodyOf, readOf}
+use Rattle.sitting_file.specs.Format.{firstGroup, numberAt, andThen, headerUpTo, headerOf, symbolsFrom, bodyOf, readOf}
 use Rattle.sitting_file.specs.Verdict.{Bytes, shortest, written, withHeader, Due, from-to, dueAfter, MeetsDue, Follow, FaultAt, FaultIn, Verdict}
 use Rattle.sitting_file.specs.declared.Shape.{Shape}
 use Rattle.sitting_file.specs.declared.Refusal.{Refusal}
@@ -76,7 +76,7 @@ module _ (file : List ℕ) where
   Heads (Faulty why) = FaultIn file why
 
   header-true : Bytes file → Heads (headerOf file)
-  unfolding headerOf Heads
+  unfolding headerUpTo Heads
   header-true bytes =
       step Heads Faulty (λ why f. f) [] 0 fewestSymbols mostSymbols refl (record { rest = file; split = refl; place = refl; follow = tt; bytes = bytes }) _
       (λ A at₁ q₁. step Heads Faulty (λ why f. f) (A ∷ []) at₁ 0 deepest refl q₁ _

@@ -5,7 +5,7 @@ use mathlib.Core.Path.{_≡_, refl}
 use mathlib.Core.List.{List, [], _∷_, _++_, map}
 use lib.ListN.{replicate}
 use Rattle.numbers.specs.Limits.{longest}
-use Rattle.sitting_file.specs.Format.{judgedNumber, secondGroup, firstGroup, headerOf, symbolsFrom, bodyOf, readOf, refusalNumber}
+use Rattle.sitting_file.specs.Format.{judgedNumber, secondGroup, firstGroup, headerUpTo, symbolsFrom, bodyOf, readOf, refusalNumber}
 use Rattle.sitting_file.specs.Verdict.{shortest}
 use Rattle.sitting_file.specs.declared.Refusal.the-variants.{EndsEarly, NotShortest, OutsideLimits, BytesLeft}
 use Rattle.sitting_file.specs.declared.Reading.{Reading}
@@ -76,7 +76,7 @@ examples =
     ∷ []
 
 pub examples-right : map (λ (e : Example). readOf (e .file)) examples ≡ map (λ (e : Example). e .answer) examples
-unfolding shortest judgedNumber secondGroup firstGroup headerOf symbolsFrom bodyOf
+unfolding shortest judgedNumber secondGroup firstGroup headerUpTo symbolsFrom bodyOf
 examples-right = refl
 
 -- document 01's numbers of the four refusals

@@ -1,6 +1,6 @@
 -- A number in the bytes from a place on, and what reading it tells: the one case analysis of `numberAt`. Assumes nothing.
 use Prim.Native.Nat.{ℕ, suc, _+_, _-_, _<_, _≤_}
-use mathlib.Core.Path.{_≡_, refl, sym, ap, _∙_}
+use mathlib.Core.Path.{_≡_, refl, sym, ap, ap₂, _∙_}
 use mathlib.Core.Logic.{_⊎_, inl, inr}
 use mathlib.Core.Bool.{Bool, true, false, cond, _&&_, _||_}
 use mathlib.Core.List.{List, [], _∷_}
@@ -9,7 +9,7 @@ use native.Mathlib.Omega.{arith}
 use lib.ListN.{length, getD, drop, length-drop}
 use lib.Seq.{getD-drop}
 use lib.Dec.{leb, eqb}
-use borrow.Author.Tests.{leb-true, leb-false, eqb-true, eqb-false}
+use borrow.Author.Tests.{leb-true, leb-false, le-leb, lt-leb, eqb-true, eqb-false, ne-eqb}
 use Rattle.sitting_file.specs.Format.{highBit, groupsJoined, judgedNumber, secondGroup, firstGroup, numberAt}
 use Rattle.sitting_file.specs.declared.Refusal.{Refusal}
 use Rattle.sitting_file.specs.declared.Refusal.the-variants.{EndsEarly, NotShortest, OutsideLimits}
@@ -98,3 +98,26 @@ module _ (low high at v next : ℕ) (file : List ℕ) where
 
   pub number-found : numberAt file at low high ≡ Value v next → Found low high at v next file
   number-found e = told-found (tells low high at (drop at file)) e refl
+
+-- ---- a number under other limits
+
+module _ (low high other at : ℕ) where
+  stands-judged : {v next : ℕ} {bytes : List ℕ} → Stands at v next bytes → firstGroup low other at bytes ≡ judgedNumber low other v next
+  unfolding firstGroup secondGroup
+  stands-judged (one {v} small) = rw (lt-leb highBit v small)
+  stands-judged (two {b} {c} big low-c high-c) =
+      let nonzero : c ≡ 0 → ⊥ = omega arith in
+      rw (le-leb highBit b big, lt-leb highBit c high-c, ne-eqb c 0 nonzero)
+
+  told-judged : {bytes : List ℕ} {n : Number} {v next : ℕ} → Told low high at bytes n → n ≡ Value v next → firstGroup low other at bytes ≡ judgedNumber low other v next
+  told-judged no-group e = never e
+  told-judged (half big) e = never e
+  told-judged (not-short big f) e = never e
+  told-judged (outside s f) e = never e
+  told-judged (inside s l h) e =
+      let t = value-same e in
+      stands-judged s ∙ ap₂ (judgedNumber low other) (t .0) (t .1)
+
+  -- a number that was found is the same number under another limit, and judged by it
+  pub judged-again : (v next : ℕ) (bytes : List ℕ) → firstGroup low high at bytes ≡ Value v next → firstGroup low other at bytes ≡ judgedNumber low other v next
+  judged-again v next bytes e = told-judged (tells low high at bytes) e

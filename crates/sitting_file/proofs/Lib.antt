@@ -10,4 +10,5 @@ pub mod AcceptedFile
 pub mod Rewritten
 pub mod InputRead
 pub mod LongInput
+pub mod OldLimit
 pub mod Examples

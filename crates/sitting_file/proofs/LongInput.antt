@@ -9,7 +9,7 @@ use lib.ListN.{length, getD, take, drop, length-drop}
 use lib.Seq.{drop-cons, getD-take, length-take-le}
 use borrow.Author.Tests.{lt-ltb}
 use Rattle.numbers.specs.Limits.{fewestSymbols, mostSymbols, deepest, longest}
-use Rattle.sitting_file.specs.Format.{secondGroup, firstGroup, numberAt, andThen, headerOf, symbolsFrom, bodyOf}
+use Rattle.sitting_file.specs.Format.{secondGroup, firstGroup, numberAt, andThen, headerUpTo, headerOf, symbolsFrom, bodyOf}
 use Rattle.sitting_file.specs.Samples.{InLimits, longestHeader, longestFile}
 use Rattle.sitting_file.specs.Input.{inputBytes, ShowsFault}
 use Rattle.sitting_file.specs.declared.Shape.{Shape}
@@ -94,7 +94,7 @@ module _ (file : List ℕ) (bytes : ℕ) (inside-file : bytes ≤ length file) w
     whole : (shape : Shape) (at : ℕ) → InLimits shape → at ≤ longestHeader → Alike (Whole shape at) (Whole shape at)
 
   header-alike : longestHeader + 2 ≤ bytes → Alike (headerOf file) (headerOf first)
-  unfolding headerOf
+  unfolding headerUpTo
   header-alike h =
       step Alike Faulty faulty 0 fewestSymbols mostSymbols (omega arith) _ _
       (λ A at₁ f₁. step Alike Faulty faulty at₁ 0 deepest (omega arith) _ _

@@ -5,7 +5,7 @@ use mathlib.Core.List.{List}
 use native.Mathlib.Omega.{arith}
 use lib.ListN.{length, drop}
 use Rattle.numbers.specs.Limits.{fewestSymbols, mostSymbols, deepest, longest}
-use Rattle.sitting_file.specs.Format.{numberAt, andThen, headerOf}
+use Rattle.sitting_file.specs.Format.{numberAt, andThen, headerUpTo, headerOf}
 use Rattle.sitting_file.specs.Samples.{InLimits, longestHeader}
 use Rattle.sitting_file.specs.declared.Shape.{Shape}
 use Rattle.sitting_file.specs.declared.Refusal.{Refusal}
@@ -16,30 +16,30 @@ use Rattle.sitting_file.specs.declared.Heading.{Heading}
 use Rattle.sitting_file.specs.declared.Heading.the-variants.{Whole, Faulty}
 use Rattle.sitting_file.proofs.Groups.{Told, no-group, half, not-short, outside, inside, tells, number-found}
 
--- ---- the header, as far as it was read
+-- ---- the header, as far as a reader of any sample limit reads it
 
-module _ (file : List ℕ) where
-  pub alphabet-refused : (why : Refusal) → numberAt file 0 fewestSymbols mostSymbols ≡ Fault why → headerOf file ≡ Faulty why
-  unfolding headerOf
+module _ (limit : ℕ) (file : List ℕ) where
+  pub alphabet-refused : (why : Refusal) → numberAt file 0 fewestSymbols mostSymbols ≡ Fault why → headerUpTo limit file ≡ Faulty why
+  unfolding headerUpTo
   alphabet-refused why e = rw e
 
   module _ (A at₁ : ℕ) (e₁ : numberAt file 0 fewestSymbols mostSymbols ≡ Value A at₁) where
-    pub depth-refused : (why : Refusal) → numberAt file at₁ 0 deepest ≡ Fault why → headerOf file ≡ Faulty why
-    unfolding headerOf
+    pub depth-refused : (why : Refusal) → numberAt file at₁ 0 deepest ≡ Fault why → headerUpTo limit file ≡ Faulty why
+    unfolding headerUpTo
     depth-refused why e = rw (e₁, e)
 
     module _ (D at₂ : ℕ) (e₂ : numberAt file at₁ 0 deepest ≡ Value D at₂) where
-      pub first-refused : (why : Refusal) → numberAt file at₂ 0 longest ≡ Fault why → headerOf file ≡ Faulty why
-      unfolding headerOf
+      pub first-refused : (why : Refusal) → numberAt file at₂ 0 limit ≡ Fault why → headerUpTo limit file ≡ Faulty why
+      unfolding headerUpTo
       first-refused why e = rw (e₁, e₂, e)
 
-      module _ (n at₃ : ℕ) (e₃ : numberAt file at₂ 0 longest ≡ Value n at₃) where
-        pub second-refused : (why : Refusal) → numberAt file at₃ 0 longest ≡ Fault why → headerOf file ≡ Faulty why
-        unfolding headerOf
+      module _ (n at₃ : ℕ) (e₃ : numberAt file at₂ 0 limit ≡ Value n at₃) where
+        pub second-refused : (why : Refusal) → numberAt file at₃ 0 limit ≡ Fault why → headerUpTo limit file ≡ Faulty why
+        unfolding headerUpTo
         second-refused why e = rw (e₁, e₂, e₃, e)
 
-        pub header-whole : (m at₄ : ℕ) → numberAt file at₃ 0 longest ≡ Value m at₄ → headerOf file ≡ Whole (record { alphabet = A; depth = D; first = n; second = m }) at₄
-        unfolding headerOf
+        pub header-whole : (m at₄ : ℕ) → numberAt file at₃ 0 limit ≡ Value m at₄ → headerUpTo limit file ≡ Whole (record { alphabet = A; depth = D; first = n; second = m }) at₄
+        unfolding headerUpTo
         header-whole m at₄ e = rw (e₁, e₂, e₃, e)
 
 -- ---- no fault of a header is 16
@@ -64,7 +64,7 @@ module _ (file : List ℕ) where
       by (Fault w) e = λ why f q. told-fault (tells low high at (drop at file)) e cc
 
   pub header-fault : NotLeft (headerOf file)
-  unfolding headerOf
+  unfolding headerUpTo
   header-fault =
       goes-on 0 fewestSymbols mostSymbols _
       (λ A at₁. goes-on at₁ 0 deepest _
@@ -90,7 +90,7 @@ went (Fault why) go shape at e =
 whole-same : {s t : Shape} {i j : ℕ} → Whole s i ≡ Whole t j → (s ≡ t) × (i ≡ j)
 whole-same e = (cc, cc)
 
-module _ (file : List ℕ) (shape : Shape) (at : ℕ) where
+module _ (limit : ℕ) (file : List ℕ) (shape : Shape) (at : ℕ) where
   -- the four numbers of a header, one after another
   pub record FourFound : Type 0 where
     pub at₁ : ℕ
@@ -98,16 +98,16 @@ module _ (file : List ℕ) (shape : Shape) (at : ℕ) where
     pub at₃ : ℕ
     pub alphabet : numberAt file 0 fewestSymbols mostSymbols ≡ Value (shape .alphabet) at₁
     pub depth : numberAt file at₁ 0 deepest ≡ Value (shape .depth) at₂
-    pub first : numberAt file at₂ 0 longest ≡ Value (shape .first) at₃
-    pub second : numberAt file at₃ 0 longest ≡ Value (shape .second) at
+    pub first : numberAt file at₂ 0 limit ≡ Value (shape .first) at₃
+    pub second : numberAt file at₃ 0 limit ≡ Value (shape .second) at
 
-  pub four-found : headerOf file ≡ Whole shape at → FourFound
-  unfolding headerOf
+  pub four-found : headerUpTo limit file ≡ Whole shape at → FourFound
+  unfolding headerUpTo
   four-found e =
       let a = went (numberAt file 0 fewestSymbols mostSymbols) _ shape at e in
       let d = went (numberAt file (a .next) 0 deepest) _ shape at (a .on) in
-      let n = went (numberAt file (d .next) 0 longest) _ shape at (d .on) in
-      let m = went (numberAt file (n .next) 0 longest) _ shape at (n .on) in
+      let n = went (numberAt file (d .next) 0 limit) _ shape at (d .on) in
+      let m = went (numberAt file (n .next) 0 limit) _ shape at (n .on) in
       let same = whole-same (m .on) in
       record {
         at₁ = a .next;
@@ -119,6 +119,7 @@ module _ (file : List ℕ) (shape : Shape) (at : ℕ) where
         second = m .here ∙ ap₂ (λ (s : Shape) (i : ℕ). Value (s .second) i) (same .0) (same .1);
       }
 
+module _ (file : List ℕ) (shape : Shape) (at : ℕ) where
   -- a header that was read: its numbers are within their limits, and it takes at most six bytes of the file
   pub record HeaderRead : Type 0 where
     pub limits : InLimits shape
@@ -127,7 +128,7 @@ module _ (file : List ℕ) (shape : Shape) (at : ℕ) where
 
   pub header-read : headerOf file ≡ Whole shape at → HeaderRead
   header-read e =
-      let f = four-found e in
+      let f = four-found longest file shape at e in
       let a = number-found fewestSymbols mostSymbols 0 (shape .alphabet) (f .at₁) file (f .alphabet) in
       let d = number-found 0 deepest (f .at₁) (shape .depth) (f .at₂) file (f .depth) in
       let n = number-found 0 longest (f .at₂) (shape .first) (f .at₃) file (f .first) in

@@ -58,14 +58,18 @@ abbrev pub andThen : {R : Type 0} → Number → (Refusal → R) → (ℕ → �
 andThen (Value v next) stop go = go v next
 andThen (Fault why) stop go = stop why
 
--- "The file: A, D, n, m", with the place after them
-unfoldable pub headerOf : List ℕ → Heading
-headerOf file =
+-- "The file: A, D, n, m", with the place after them, by a reader that takes samples of up to `limit` symbols
+unfoldable pub headerUpTo : ℕ → List ℕ → Heading
+headerUpTo limit file =
     andThen (numberAt file 0 fewestSymbols mostSymbols) Faulty λ A at₁.
     andThen (numberAt file at₁ 0 deepest) Faulty λ D at₂.
-    andThen (numberAt file at₂ 0 longest) Faulty λ n at₃.
-    andThen (numberAt file at₃ 0 longest) Faulty λ m at₄.
+    andThen (numberAt file at₂ 0 limit) Faulty λ n at₃.
+    andThen (numberAt file at₃ 0 limit) Faulty λ m at₄.
     Whole (record { alphabet = A; depth = D; first = n; second = m }) at₄
+
+-- by the sample limit of this reader
+abbrev pub headerOf : List ℕ → Heading
+headerOf file = headerUpTo longest file
 
 -- "n symbols, m symbols": as many as are left, each below A, and nothing after them
 unfoldable pub symbolsFrom : List ℕ → Shape → ℕ → ℕ → Reading
@@ -77,6 +81,9 @@ unfoldable pub bodyOf : List ℕ → Heading → Reading
 bodyOf file (Whole shape at) = symbolsFrom file shape (shape .first + shape .second) at
 bodyOf file (Faulty why) = Refused why
 
--- the answer to a file
+-- the answer to a file, by a reader of any sample limit and by this one
+abbrev pub readUpTo : ℕ → List ℕ → Reading
+readUpTo limit file = bodyOf file (headerUpTo limit file)
+
 abbrev pub readOf : List ℕ → Reading
-readOf file = bodyOf file (headerOf file)
+readOf file = readUpTo longest file

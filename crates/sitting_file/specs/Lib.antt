@@ -2,3 +2,4 @@ pub mod Format
 pub mod Samples
 pub mod Verdict
 pub mod Input
+pub mod OldLimit

@@ -66,13 +66,13 @@ first-found c = sym (c .before .before .before .number-at3 .ensures) ∙ c .befo
 returns : tie.Need-returns
 returns c =
     let n = c .before .before .before in
-    sym (alphabet-refused _ _ (sym (n .number-at .ensures) ∙ c .before .why .given .1))
+    sym (alphabet-refused longest _ _ (sym (n .number-at .ensures) ∙ c .before .why .given .1))
 
 returns-2 : tie.Need-returns-2
 unfolding fileIn
 returns-2 c =
     let n = c .before .before .before in
-    sym (depth-refused _ _ _ (alphabet-found (n .before)) _ (sym (n .number-at2 .ensures) ∙ c .before .why2 .given .1))
+    sym (depth-refused longest _ _ _ (alphabet-found (n .before)) _ (sym (n .number-at2 .ensures) ∙ c .before .why2 .given .1))
 
 returns-3 : tie.Need-returns-3
 unfolding fileIn
@@ -80,7 +80,7 @@ returns-3 c =
     let n = c .before .before .before in
     let k₄ = n .before in
     let k₂ = k₄ .before .before .before .before in
-    sym (first-refused _ _ _ (alphabet-found k₂) _ _ (depth-found k₄) _ (sym (n .number-at3 .ensures) ∙ c .before .why3 .given .1))
+    sym (first-refused longest _ _ _ (alphabet-found k₂) _ _ (depth-found k₄) _ (sym (n .number-at3 .ensures) ∙ c .before .why3 .given .1))
 
 returns-4 : tie.Need-returns-4
 unfolding fileIn
@@ -89,7 +89,7 @@ returns-4 c =
     let k₆ = n .before in
     let k₄ = k₆ .before .before .before .before in
     let k₂ = k₄ .before .before .before .before in
-    sym (second-refused _ _ _ (alphabet-found k₂) _ _ (depth-found k₄) _ _ (first-found k₆) _ (sym (n .number-at4 .ensures) ∙ c .before .why4 .given .1))
+    sym (second-refused longest _ _ _ (alphabet-found k₂) _ _ (depth-found k₄) _ _ (first-found k₆) _ (sym (n .number-at4 .ensures) ∙ c .before .why4 .given .1))
 
 returns-5 : tie.Need-returns-5
 unfolding fileIn
@@ -98,7 +98,7 @@ returns-5 c =
     let k₆ = n .before in
     let k₄ = k₆ .before .before .before .before in
     let k₂ = k₄ .before .before .before .before in
-    sym (header-whole _ _ _ (alphabet-found k₂) _ _ (depth-found k₄) _ _ (first-found k₆) _ _ (sym (n .number-at4 .ensures) ∙ c .before .second .given .1))
+    sym (header-whole longest _ _ _ (alphabet-found k₂) _ _ (depth-found k₄) _ _ (first-found k₆) _ _ (sym (n .number-at4 .ensures) ∙ c .before .second .given .1))
 
 pub header-spec : {M : Type 1} → statement M
 header-spec =
