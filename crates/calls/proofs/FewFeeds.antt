@@ -1,4 +1,4 @@
--- A run has at most 512 accepted feeds: each leaves its sample longer by one, and a full sample takes no more. Assumes nothing.
+-- A run has at most 2,048 accepted feeds: each leaves its sample longer by one, and a full sample takes no more. Assumes nothing.
 use Prim.Native.Nat.{ℕ, suc, _-_, _≤_, _<_}
 use mathlib.Core.Path.{_≡_, refl, sym, ap}
 use mathlib.Core.Bool.{Bool, true, false}

@@ -78,7 +78,7 @@ module _ (s t : List ℕ) (d : ℕ) (i : Sample) (a : ℕ) (f : FedStore s t d i
   reservations-same = sum-cong desks reserved-same
 
   module _ (p : Acceptable s d i a) where
-    -- "0 to 512 symbols"
+    -- "0 to 2,048 symbols"
     pub size-within : (e : ℕ) → Open s e → (j : Sample) → sizeAt t e j ≤ longest
     size-within e o j = elim (same? e d) [
       | yes q ↦ rw q (go (sameSample j i) refl (f .sizes j))

@@ -88,7 +88,7 @@ given (q gives a) = expected q a
 abbrev pub AllHold : List Example → Type 0
 AllHold es = map asked es ≡ map given es
 
--- the six values, and J1 to J5; J1 "needs r 3; with r 2 the third feed of the first sample gets 10"
+-- the six values with that of 4,096 (request E2), and J1 to J5; J1 "needs r 3; with r 2 the third feed of the first sample gets 10"
 unfoldable pub marked : List Example
 marked =
     logarithm 1 gives value 0
@@ -97,6 +97,7 @@ marked =
     ∷ logarithm 9 gives value 3246
     ∷ logarithm 1023 gives value 10238
     ∷ logarithm 1024 gives value 10240
+    ∷ logarithm 4096 gives value 12288
     ∷ sitting 2 1 3 (0 ∷ 1 ∷ 0 ∷ 1 ∷ []) (0 ∷ 1 ∷ 0 ∷ 1 ∷ []) gives reports (row 0 1 0 (0 ∷ 4 ∷ []) ∷ row 0 1 1 (2 ∷ 0 ∷ []) ∷ []) (negℤ (pos 6144))
     ∷ sitting 2 1 2 (0 ∷ 1 ∷ 0 ∷ []) [] gives each (did ∷ did ∷ did ∷ refusedWith 10 ∷ refusedWith 11 ∷ [])
     ∷ sitting 2 1 3 (0 ∷ 1 ∷ 0 ∷ 1 ∷ []) (0 ∷ 0 ∷ 0 ∷ 0 ∷ []) gives reports (row 2 0 0 (4 ∷ 0 ∷ []) ∷ row 1 1 0 (0 ∷ 2 ∷ []) ∷ row 1 1 1 (1 ∷ 0 ∷ []) ∷ []) (negℤ (pos 6144))

@@ -1,4 +1,4 @@
--- The program reads 2,048 bytes at most, and answers as if it had read the whole input. Assumes nothing.
+-- The program reads 4,608 bytes at most, and answers as if it had read the whole input. Assumes nothing.
 use Prim.Native.Nat.{ℕ, min}
 use native.Mathlib.Decide.{decLe}
 use native.Mathlib.Omega.{arith}
@@ -18,7 +18,7 @@ use Rattle.judgement.specs.Answers.{answerFor, sheetLeft, StoreAfter, An
 use Rattle.judgement.specs.Prints.{textOf, Prints, PrintsInput}
 use Rattle.judgement.specs.declared.SittingAnswer.{SittingAnswer}
 
--- THEOREM. "Longer input is judged on its first 2,048 bytes": the judgement is the whole input's
+-- THEOREM. "Longer input is judged on its first 4,608 bytes": the judgement is the whole input's
 pub input-read : (input : List ℕ) (sheet : ℕ) → judgement (take inputBytes input) sheet ≡ judgement input sheet
 unfolding judged
 input-read input sheet = elim (decLe inputBytes (length input)) [

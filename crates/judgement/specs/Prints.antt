@@ -31,12 +31,12 @@ pub record Prints (file store sheet bytes : List ℕ) (r : ℕ) (store′ sheet�
 
 -- ---- standard input
 
--- "The program reads standard input into 2,048 bytes": a buffer that `many` bytes were read into, and what is printed then
+-- "The program reads standard input into 4,608 bytes": a buffer that `many` bytes were read into, and what is printed then
 pub record PrintsInput (buffer : List ℕ) (many : ℕ) (store sheet bytes : List ℕ) (r : ℕ) (store′ sheet′ bytes′ : List ℕ) : Type 0 where
   pub long : length buffer ≡ inputBytes
   -- the bytes read are judged, whatever their number
   pub first-bytes : Prints (take many buffer) store sheet bytes r store′ sheet′ bytes′
-  -- "Longer input is judged on its first 2,048 bytes, which always show a fault": the answer is that to the whole input, of any length
+  -- "Longer input is judged on its first 4,608 bytes, which always show a fault": the answer is that to the whole input, of any length
   pub whole : (stdin : List ℕ) → ReadInto stdin buffer many → Prints stdin store sheet bytes r store′ sheet′ bytes′
 
 -- ---- an answer that is put

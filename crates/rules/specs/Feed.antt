@@ -31,7 +31,7 @@ afterFeed o i a p = record {
 abbrev pub notOfSitting : Opening → ℕ → ℕ → Bool
 notOfSitting o i a = ltb 1 i || leb (o .symbols) a
 
--- "sample already holds 512 symbols"
+-- "sample already holds 2,048 symbols"
 abbrev pub isFull : Progress → ℕ → Bool
 isFull p i = leb longest (p .size (sampleOf i))
 

@@ -127,6 +127,6 @@ module _ (file : List ℕ) (bytes : ℕ) (inside-file : bytes ≤ length file) w
           let m = l .second-high in
           symbols-shown shape l (shape .first + shape .second) at (omega arith)
 
--- "Longer input is judged on its first 2,048 bytes, which always show a fault."
+-- "Longer input is judged on its first 4,608 bytes, which always show a fault."
 pub input-judged : (file : List ℕ) → inputBytes ≤ length file → ShowsFault file inputBytes
 input-judged file h = first-bytes-judge file inputBytes h (omega arith)

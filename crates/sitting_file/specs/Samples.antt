@@ -6,7 +6,7 @@ use lib.ListN.{length, getD, take, drop}
 use Rattle.numbers.specs.Limits.{fewestSymbols, mostSymbols, deepest, longest}
 use Rattle.sitting_file.specs.declared.Shape.{Shape}
 
--- "A from 2 to 8; depth D from 0 to 6; each of a sitting's two samples 0 to 512 symbols"
+-- "A from 2 to 8; depth D from 0 to 6; each of a sitting's two samples 0 to 2,048 symbols"
 pub record InLimits (shape : Shape) : Type 0 where
   pub alphabet-low : fewestSymbols ≤ shape .alphabet
   pub alphabet-high : shape .alphabet ≤ mostSymbols

@@ -48,7 +48,7 @@ pub record SittingFits (o : Opening) (p : Progress) : Type 0 where
   pub alphabet-most : o .symbols ≤ mostSymbols
   pub depth-most : o .depth ≤ deepest
   pub reserve-some : 1 ≤ o .reserve
-  -- "0 to 512 symbols"
+  -- "0 to 2,048 symbols"
   pub sizes : (i : Sample) → p .size i ≤ longest
   -- the last symbols: D of them, or as many as there are, each below A
   pub recent-length : (i : Sample) → length (p .recent i) ≡ min (p .size i) (o .depth)

@@ -1,4 +1,4 @@
--- `sobumikeyo_feed_all` meets its contract: no run has more than 512 accepted feeds, which fit. Assumes nothing.
+-- `sobumikeyo_feed_all` meets its contract: no run has more than 2,048 accepted feeds, which fit. Assumes nothing.
 use native.Mathlib.Omega.{arith}
 use borrow.Author.Needs.{needs}
 use Rattle.calls.proofs.FewFeeds.{run-few}
