@@ -1,13 +1,12 @@
 #include "plain.h"
-#include "stores.h"
 #include <math.h>
 #include <string.h>
 
-static int64_t weight[1025]; // n times L(n)
-static int64_t L[1025];
+static int64_t weight[2 * LONGEST + 1]; // n times L(n)
+static int64_t L[2 * LONGEST + 1];
 
-void plain_logarithms(void) {
-    for (int n = 1; n <= 1024; n++) {
+void plain_logarithms(uint32_t largest) {
+    for (uint32_t n = 1; n <= largest; n++) {
         L[n] = (int64_t)floorl(1024 * log2l(n));
         weight[n] = n * L[n];
     }

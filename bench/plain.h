@@ -1,6 +1,7 @@
 // The same sittings in plain C: a trie in an array, and the report by recursion over it. Nothing is checked, but by plain_write
 // and plain_salvage.
 #pragma once
+#include "stores.h"
 #include <stddef.h>
 #include <stdint.h>
 
@@ -14,7 +15,7 @@ typedef struct {
 
 typedef struct {
     uint32_t alphabet, depth, used, size[2];
-    uint8_t text[2][512];
+    uint8_t text[2][LONGEST];
     node nodes[NODES];
 } trie;
 
@@ -39,5 +40,5 @@ uint32_t plain_write(const recording *r, uint8_t *file, size_t room, size_t *wri
 // Writes the file of what can be kept of a damaged one, after the library's checks: 13 to 15 for the header, else 19. `told` gets what is
 // missing and dropped of each sample, and what is cut off. Answers 0 where it is written.
 uint32_t plain_salvage(const uint8_t *damaged, size_t many, uint8_t *file, size_t room, size_t *written, uint64_t told[5]);
-// Computes the logarithms. To be called once.
-void plain_logarithms(void);
+// Computes the logarithms of 1 to `largest`, which is the length of both samples together. To be called before a report.
+void plain_logarithms(uint32_t largest);

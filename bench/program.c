@@ -2,7 +2,7 @@
 #include "plain.h"
 #include <stdio.h>
 
-enum { INPUT = 2048, ROWS = 512, ROW = 11 };
+enum { INPUT = 4608, ROWS = 512, ROW = 11 };
 
 static uint8_t file[INPUT];
 static uint32_t sheet[ROW * ROWS];
@@ -19,7 +19,7 @@ int main(void) {
     const uint8_t *at = file;
     if (fread(file, 1, INPUT, stdin) == 0) return 1;
     uint32_t alphabet = number(&at), depth = number(&at), n = number(&at), m = number(&at);
-    plain_logarithms();
+    plain_logarithms(n + m);
     plain_start(&sitting, alphabet, depth);
     plain_feed_all(&sitting, 0, at, n);
     plain_feed_all(&sitting, 1, at + n, m);

@@ -83,9 +83,9 @@ static void agree_headers(damaged d) {
     }
 }
 
-// Lengths of one group and of two.
+// Lengths of one group and of two; those of the headers are at the limit and above it.
 static void agree_all(void) {
-    static const size_t sizes[][2] = {{0, 0}, {1, 127}, {127, 128}, {128, 1}, {0, 128}, {LONGEST, LONGEST}};
+    static const size_t sizes[][2] = {{0, 0}, {1, 127}, {127, 128}, {128, 1}, {0, 128}, {USUAL, USUAL}};
     for (int i = 0; i < 6; i++) {
         damaged d = file_of(sizes[i][0], sizes[i][1]);
         agree_cut(d);
@@ -100,18 +100,25 @@ static void agree_all(void) {
     must(answers[0] && answers[13] && answers[14] && answers[15] && answers[19], "every answer is given");
 }
 
+// A file without its last symbol, so that all others are kept.
+static damaged ending(size_t many) {
+    damaged d = file_of(many, many);
+    d.many -= AFTER + 1;
+    return d;
+}
+
 int main(int words, char **word) {
     asked(words, word);
     for (uint32_t i = 0; i < 2; i++) string_of(text[i], LONGEST, (habit){4, 4, i});
     agree_all();
-    // the last symbol is missing, so that all others are kept
-    damaged longest = file_of(LONGEST, LONGEST), shorter = file_of(FEW, FEW);
-    longest.many -= AFTER + 1, shorter.many -= AFTER + 1;
-    job jobs[] = {{0, library, &longest, INNER, 0}, {0, plain, &longest, INNER, 0}, {0, library, &shorter, INNER, 0}};
-    race_or_count(jobs, 3, ROUNDS);
-    double each = jobs[0].ns / longest.many, each_of_few = jobs[2].ns / shorter.many;
+    damaged usual = ending(USUAL), shorter = ending(FEW), longest = ending(LONGEST);
+    job jobs[] = {{0, library, &usual, INNER, 0}, {0, plain, &usual, INNER, 0}, {0, library, &shorter, INNER, 0},
+                  {0, library, &longest, INNER, 0}};
+    race_or_count(jobs, 4, ROUNDS);
+    double each = jobs[0].ns / usual.many, each_of_few = jobs[2].ns / shorter.many, each_of_longest = jobs[3].ns / longest.many;
     line(jobs[0].ns / jobs[1].ns, 3, "salvaging a sitting file, 512 + 512 symbols: times plain C, which checks too");
     line(each, 0, "    ns for each byte");
     line(each / each_of_few, 1.25, "    time for each byte, 512 + 512 symbols by 64 + 64");
+    line(each_of_longest / each_of_few, 1.25, "    time for each byte, 2,048 + 2,048 symbols by 64 + 64");
     return 0;
 }

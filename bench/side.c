@@ -9,7 +9,7 @@ enum { ROOM = 4096, LEN = SOBUMIKEYO_STORE_SIZE(ROOM), SHEET = SOBUMIKEYO_ROW_WI
 typedef struct {
     shape s;
     uint32_t store[LEN], fed[LEN]; // one with its strings, one to be fed
-    uint8_t text[2][LONGEST];
+    uint8_t text[2][USUAL];
 } sitting;
 
 static sitting sittings[SHAPES];
@@ -25,13 +25,13 @@ static void begin(void *with) {
 
 static void feed_all(void *with) {
     sitting *at = with;
-    for (uint32_t i = 0; i < 2; i++) sink += sobumikeyo_feed_all(at->fed, LEN, 0, i, at->text[i], LONGEST, &why);
+    for (uint32_t i = 0; i < 2; i++) sink += sobumikeyo_feed_all(at->fed, LEN, 0, i, at->text[i], USUAL, &why);
 }
 
 static void feed_each(void *with) {
     sitting *at = with;
     for (uint32_t i = 0; i < 2; i++)
-        for (uint32_t k = 0; k < LONGEST; k++) sink += sobumikeyo_feed(at->fed, LEN, 0, i, at->text[i][k]);
+        for (uint32_t k = 0; k < USUAL; k++) sink += sobumikeyo_feed(at->fed, LEN, 0, i, at->text[i][k]);
 }
 
 static void test(void *with) {
@@ -47,7 +47,7 @@ static void report(void *with) {
 // Both strings fed, and the report on them.
 static answer seated(sitting *at, shape s) {
     at->s = s;
-    for (uint32_t i = 0; i < 2; i++) string_of(at->text[i], LONGEST, (habit){s.uses, s.noise, i});
+    for (uint32_t i = 0; i < 2; i++) string_of(at->text[i], USUAL, (habit){s.uses, s.noise, i});
     begin(at);
     feed_all(at);
     must(why == 0, "feed_all");

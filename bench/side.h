@@ -3,7 +3,8 @@
 #include "timing.h"
 #include <stdint.h>
 
-// Sittings of 512 + 512 symbols; the strings use so many of the alphabet's symbols, with so much noise (stores.h).
+// Sittings of 512 + 512 symbols, since a library from before request E2 refuses longer ones; the strings use so many of the alphabet's
+// symbols, with so much noise (stores.h).
 typedef struct {
     uint32_t alphabet, depth, uses, noise;
 } shape;

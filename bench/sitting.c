@@ -7,7 +7,7 @@
 
 enum { ALPHABET = 4, DEPTH = 4, ROOM = 512, LEN = HEADER + WIDTH * ROOM, SHEET = 11 * 1024 };
 
-static uint8_t text[2][LONGEST];
+static uint8_t text[2][USUAL];
 static uint32_t store[LEN], sheet[SHEET], plain_sheet[SHEET], rows, plain_rows, why;
 static int64_t score, plain_score;
 static trie twin;
@@ -21,19 +21,19 @@ static void begin(void *with) {
 
 static void feed_runs(void *with) {
     (void)with;
-    for (uint32_t i = 0; i < 2; i++) sink += sobumikeyo_feed_all(store, LEN, 0, i, text[i], LONGEST, &why);
+    for (uint32_t i = 0; i < 2; i++) sink += sobumikeyo_feed_all(store, LEN, 0, i, text[i], USUAL, &why);
 }
 
 static void feed_each(void *with) {
     (void)with;
     for (uint32_t i = 0; i < 2; i++)
-        for (uint32_t k = 0; k < LONGEST; k++) sink += sobumikeyo_feed(store, LEN, 0, i, text[i][k]);
+        for (uint32_t k = 0; k < USUAL; k++) sink += sobumikeyo_feed(store, LEN, 0, i, text[i][k]);
 }
 
 static void feed_and_test(void *with) {
     (void)with;
     for (uint32_t i = 0; i < 2; i++)
-        for (uint32_t k = 0; k < LONGEST; k++)
+        for (uint32_t k = 0; k < USUAL; k++)
             sink += sobumikeyo_sound(store, LEN) + sobumikeyo_feed(store, LEN, 0, i, text[i][k]);
 }
 
@@ -44,13 +44,13 @@ static void plain_begin(void *with) {
 
 static void plain_feed(void *with) {
     (void)with;
-    for (uint32_t i = 0; i < 2; i++) plain_feed_all(&twin, i, text[i], LONGEST);
+    for (uint32_t i = 0; i < 2; i++) plain_feed_all(&twin, i, text[i], USUAL);
 }
 
 static void plain_feed_each(void *with) {
     (void)with;
     for (uint32_t i = 0; i < 2; i++)
-        for (uint32_t k = 0; k < LONGEST; k++) plain_feed_all(&twin, i, &text[i][k], 1);
+        for (uint32_t k = 0; k < USUAL; k++) plain_feed_all(&twin, i, &text[i][k], 1);
 }
 
 static void report(void *with) {
@@ -102,12 +102,12 @@ static void agree(void) {
 
 int main(int words, char **word) {
     asked(words, word);
-    plain_logarithms();
+    plain_logarithms(2 * USUAL);
     for (uint32_t noise = 1; noise <= 16; noise++) {
-        for (uint32_t i = 0; i < 2; i++) string_of(text[i], LONGEST, (habit){ALPHABET, noise, i});
+        for (uint32_t i = 0; i < 2; i++) string_of(text[i], USUAL, (habit){ALPHABET, noise, i});
         agree();
     }
-    for (uint32_t i = 0; i < 2; i++) string_of(text[i], LONGEST, (habit){ALPHABET, 4, i});
+    for (uint32_t i = 0; i < 2; i++) string_of(text[i], USUAL, (habit){ALPHABET, 4, i});
     agree();
     line(store[1], 0, "a sitting of 512 + 512 symbols, A 4, D 4: contexts");
     line(rows, 0, "    rows of its report, the same in plain C");
@@ -120,7 +120,7 @@ int main(int words, char **word) {
     job charts[] = {{0, chart, shares, 1, 0}, {0, chart_plain, shares, 1, 0}, {0, test, 0, 4, 0}};
     race_or_count(charts, 3, 300);
     line(feeds[0].ns / feeds[1].ns, 10, "feed_all of both samples: times plain C");
-    line(feeds[0].ns / 1024, 0, "    ns for each symbol");
+    line(feeds[0].ns / (2 * USUAL), 0, "    ns for each symbol");
     line(feeds[2].ns / (feeds[3].ns - feeds[2].ns), 2, "feeds one by one, of the whole sitting: times their soundness tests");
     line(feeds[2].ns / feeds[4].ns, 0, "    times plain C, which tests nothing");
     line(charts[0].ns / charts[1].ns, 0, "chart questions: times plain C, which tests nothing");

@@ -28,10 +28,10 @@ void string_of(uint8_t *to, size_t many, habit h) {
 // Where the header has a desk's reservation.
 static uint32_t *reservation(filled *f, uint32_t desk) { return &f->numbers[16 + 32 * desk + 3]; }
 
-// Feeds a desk's samples in turn until its reservation stops a feed.
+// Feeds a desk's samples in turn, USUAL symbols each, unless its reservation stops a feed.
 static void feed_until_full(filled *f, uint32_t desk, habit h) {
     uint8_t last[2] = {0, 1}, before[2] = {1, 0};
-    for (uint32_t step = 0; step < 2 * LONGEST; step++) {
+    for (uint32_t step = 0; step < 2 * USUAL; step++) {
         uint32_t i = step % 2, x = next_symbol(h, last[i], before[i]);
         if (sobumikeyo_feed(f->numbers, f->len, desk, i, x) != 0) return;
         before[i] = last[i];

@@ -3,7 +3,9 @@
 #include <stddef.h>
 #include <stdint.h>
 
-enum { HEADER = 2048, WIDTH = 24, LONGEST = 512, DEEPEST = 6 };
+enum { HEADER = 2048, WIDTH = 24, LONGEST = 2048, DEEPEST = 6 };
+// Most sittings measured here have samples of so many symbols, the limit before request E2: so they compare with earlier runs and libraries.
+enum { USUAL = 512 };
 
 // How a string goes on: one symbol in `noise` is any of `uses`, the others are the last two added up, and `drift` more.
 typedef struct {
@@ -21,7 +23,8 @@ typedef struct {
     uint32_t old_desk, old_sample; // where a feed adds none
 } filled;
 
-// A new store of room K, and one desk opened in it (A 8) and fed until its contexts come near a quota, then its reservation.
+// A new store of room K, and one desk opened in it (A 8) and fed until its contexts come near a quota or its samples have USUAL
+// symbols; its contexts are then its reservation.
 filled new_store(uint32_t room);
 void open_and_fill(filled *f, uint32_t desk, uint32_t depth, uint32_t quota, habit h);
 

@@ -45,7 +45,7 @@ extern "C" {
 #define SOBUMIKEYO_BAD_RESERVATION 6   /* reservation 0, or above the store's room */
 #define SOBUMIKEYO_NO_ROOM 7           /* reservation above the room left */
 #define SOBUMIKEYO_NOT_OF_SITTING 8    /* a sample, symbol or context that the sitting cannot have */
-#define SOBUMIKEYO_SAMPLE_FULL 9       /* the sample has 512 symbols */
+#define SOBUMIKEYO_SAMPLE_FULL 9       /* the sample has 2048 symbols */
 #define SOBUMIKEYO_PAST_RESERVATION 10 /* the feed needs more contexts than are reserved */
 #define SOBUMIKEYO_SAMPLE_EMPTY 11     /* a report while either sample is empty */
 #define SOBUMIKEYO_SHEET_SHORT 12      /* the rows do not fit the sheet from that place on */

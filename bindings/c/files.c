@@ -1,5 +1,6 @@
 // Sitting files from C, by the header: refused calls leave what is lent, document 01's example is written, and it reads back. Spoilt
-// and cut it is salvaged, and reads back too. Answers 0 where all is so.
+// and cut it is salvaged, and reads back too. The longest samples are written, read and fed, and one symbol more is refused. Answers 0
+// where all is so.
 #include "sobumikeyo.h"
 #include <stdio.h>
 #include <string.h>
@@ -68,4 +69,33 @@ static int salvaging(void) {
     return 0;
 }
 
-int main(void) { return writing() || salvaging(); }
+enum { LONGEST = 2048, TOO_MANY = LONGEST + 1, MOST = SOBUMIKEYO_FILE_ROOM(TOO_MANY, TOO_MANY) };
+
+static const uint8_t acts[TOO_MANY]; // all 0
+static uint8_t long_file[MOST];
+static uint32_t store[SOBUMIKEYO_STORE_SIZE(1)];
+
+static uint32_t write_long(size_t n, size_t m) { return sobumikeyo_write(acts, n, acts, m, 2, 0, long_file, MOST, &written); }
+
+static int longest_files(void) {
+    uint32_t shape[4];
+    if (write_long(TOO_MANY, 1) != SOBUMIKEYO_FILE_OUTSIDE || write_long(1, TOO_MANY) != SOBUMIKEYO_FILE_OUTSIDE)
+        return wrong("samples of 2049 symbols are not written");
+    if (write_long(LONGEST, LONGEST) || written != SOBUMIKEYO_FILE_ROOM(LONGEST, LONGEST)) return wrong("samples of 2048 symbols are written");
+    if (sobumikeyo_read(long_file, written, shape) || shape[2] != LONGEST || shape[3] != LONGEST) return wrong("they are read");
+    long_file[2]++; // the low group of the first length
+    if (sobumikeyo_read(long_file, written, shape) != SOBUMIKEYO_FILE_OUTSIDE) return wrong("a length of 2049 is not read");
+    return 0;
+}
+
+static int longest_samples(void) {
+    uint32_t why;
+    if (sobumikeyo_make(store, SOBUMIKEYO_STORE_SIZE(1), 1) || sobumikeyo_open(store, SOBUMIKEYO_STORE_SIZE(1), 0, 2, 0, 1))
+        return wrong("a desk is opened");
+    for (uint32_t sample = 0; sample < 2; sample++)
+        if (sobumikeyo_feed_all(store, SOBUMIKEYO_STORE_SIZE(1), 0, sample, acts, TOO_MANY, &why) != LONGEST || why != SOBUMIKEYO_SAMPLE_FULL)
+            return wrong("2048 symbols are fed, and one more gets 9");
+    return 0;
+}
+
+int main(void) { return writing() || salvaging() || longest_files() || longest_samples(); }

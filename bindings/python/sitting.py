@@ -15,7 +15,7 @@ sys.path.append(str(Path(__file__).resolve().parents[2]))
 from reference.command import Parser, run, standard_input  # noqa: E402 (the path comes first)
 
 COMMAND = "bindings/python/sitting.py"
-INPUT_BYTES = 2048
+INPUT_BYTES = 4608
 ROOM = 256
 SHEET_ROWS = 512
 

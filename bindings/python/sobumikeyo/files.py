@@ -64,7 +64,7 @@ def write(first, second, alphabet, depth):
     b'\\x02\\x01\\x03\\x01\\x00\\x01\\x00\\x01'
     >>> write([0, 2, 0], [1], alphabet=2, depth=1)
     Traceback (most recent call last):
-    sobumikeyo.refusals.Refusal: refused 15: A number of the file, read or to be written, is outside its limits. Keep the alphabet from 2 to 8, the depth to 6, each length to 512, and each symbol below the alphabet's size. If it is a symbol in a file, a salvage keeps its sample up to it.
+    sobumikeyo.refusals.Refusal: refused 15: A number of the file, read or to be written, is outside its limits. Keep the alphabet from 2 to 8, the depth to 6, each length to 2,048, and each symbol below the alphabet's size. If it is a symbol in a file, a salvage keeps its sample up to it.
     """
     first, second = byte_run(first, "first"), byte_run(second, "second")
     shape = number(alphabet, "alphabet"), number(depth, "depth")

@@ -90,7 +90,7 @@ WORDS = {
         "Name sample 0 or 1, symbols below the alphabet's size, and contexts no longer than the depth.",
     ),
     9: (
-        "The sample already has 512 symbols.",
+        "The sample already has 2,048 symbols.",
         "Feed it no more; further acts need a sitting of their own.",
     ),
     10: (
@@ -117,7 +117,7 @@ WORDS = {
     ),
     15: (
         "A number of the file, read or to be written, is outside its limits.",
-        "Keep the alphabet from 2 to 8, the depth to 6, each length to 512, and each symbol below the alphabet's size. "
+        "Keep the alphabet from 2 to 8, the depth to 6, each length to 2,048, and each symbol below the alphabet's size. "
         "If it is a symbol in a file, a salvage keeps its sample up to it.",
     ),
     16: (

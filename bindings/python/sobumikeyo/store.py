@@ -11,8 +11,9 @@ from sobumikeyo.refusals import Stopped, refuse_unless_zero
 from sobumikeyo.reports import ROW_WIDTH, Context, Report, row_of
 
 LARGEST_ROOM = 4096
-# As the program's sheet. What a row costs keeps reports of 512 + 512 symbols far below it.
-SHEET_ROWS = 512
+# Twice the program's sheet, which some reports on three symbols pass. What a row costs keeps every report below this: by
+# estimate, those of strings below 600.
+SHEET_ROWS = 1024
 
 
 def store_size(room):

@@ -13,7 +13,8 @@ from sobumikeyo.library import calls
 BLANK = 0xEE
 AFTER = 16  # bytes after those that are lent
 UNTOLD = 2**64 - 1
-LONGEST = bytes([1] * 512)
+LONGEST = bytes([1] * 2048)
+LONGEST_FILE = 6 + 2 * len(LONGEST)
 
 # First, second, alphabet and depth of what may be written, and the file.
 GOOD = [
@@ -26,7 +27,7 @@ GOOD = [
     ((LONGEST[:128], b"\0", 2, 1), "02 01 80 01 01" + "01" * 128 + "00"),
     ((b"\0", LONGEST[:127], 2, 1), "02 01 01 7f 00" + "01" * 127),
     ((b"\0", LONGEST[:128], 2, 1), "02 01 01 80 01 00" + "01" * 128),
-    ((LONGEST, LONGEST, 2, 6), "02 06 80 04 80 04" + "01" * 1024),
+    ((LONGEST, LONGEST, 2, 6), "02 06 80 10 80 10" + "01" * 4096),
 ]
 
 # The same of what gets 15, each by one value.
@@ -53,6 +54,7 @@ DAMAGED = [
     ("08 06 02 03 08 07 07 ff", "08 06 00 01 07", (0, 2, 1, 1, 0)),
     ("03 00 03 03 02 ff", "03 00 01 00 02", (1, 1, 3, 0, 0)),
     ("03 00 01 02 03 03 00 00", "03 00 00 00", (0, 1, 0, 2, 1)),
+    ("02 06 80 10 80 10 00", "02 06 01 00 00", (2047, 0, 2048, 0, 0)),
     # a length of two groups becomes one of one group
     ("02 01 80 01 01" + ONES[2:], "02 01 7f 00" + ONES[2:], (1, 0, 1, 0, 0)),
     ("02 01 80 01 01" + ONES[2:] + "02 00", "02 01 7f 01" + ONES[2:] + "00", (0, 1, 0, 0, 0)),
@@ -65,7 +67,8 @@ SOUND = [(bytes.fromhex(text), bytes.fromhex(text), NOTHING) for _, text in GOOD
 HEADERS = {
     13: ("", "02", "02 01", "02 01 03", "80", "02 ff", "02 01 80", "02 01 03 81"),
     14: ("80 00", "82 00 01", "02 81 00", "02 01 80 80 00", "02 01 03 80 00 00 00", "ff ff"),
-    15: ("00", "01", "09 80 00", "82 01", "02 07 ff", "02 06 ff 7f", "02 06 ff 7f 00", "02 06 00 ff 7f 00 00"),
+    15: ("00", "01", "09 80 00", "82 01", "02 07 ff", "02 06 ff 7f", "02 06 ff 7f 00", "02 06 00 ff 7f 00 00")
+    + ("02 06 81 10", "02 06 81 10 00 01", "02 06 80 10 81 10", "02 06 00 81 10 00"),  # a length of 2,049
 }
 HEADERS = [(number, bytes.fromhex(text)) for number, texts in HEADERS.items() for text in texts]
 
@@ -115,7 +118,7 @@ class Writing(unittest.TestCase):
 
     def test_bad_values_go_first(self):
         for values in BAD:
-            for room in (0, 3, 4, 1100):
+            for room in (0, 3, 4, LONGEST_FILE):
                 self.refused(15, values, room)
 
     def test_files_of_the_binding(self):
@@ -154,7 +157,7 @@ class Salvaging(unittest.TestCase):
 
     def test_bad_headers_go_first(self):
         for number, damaged in HEADERS:
-            for room in (0, 3, 4, 1100):
+            for room in (0, 3, 4, LONGEST_FILE):
                 self.refused(number, damaged, room)
 
     def test_files_of_the_binding(self):

@@ -4,11 +4,13 @@ import re
 import unittest
 from array import array
 
-from sobumikeyo import ROW_WIDTH, Chart, Context, Refusal, Sample, Stopped, Store, read, store_size
+from sobumikeyo import ROW_WIDTH, Chart, Context, Kind, Refusal, Row, Sample, Stopped, Store, read, store_size
 from sobumikeyo.refusals import WORDS
 from tests import REPOSITORY
 
 EMPTY = Context.of([])
+LONGEST = 2048
+TOO_LONG = (0x81, 0x10)  # 2,049 in a file
 
 
 def opened():
@@ -78,9 +80,12 @@ class Refusals(unittest.TestCase):
         store = Store(1)
         store.open(0, 2, 0, 1)
         with self.assertRaises(Stopped) as stopped:
-            store.feed_all(0, Sample.FIRST, [1] * 513)
-        self.assertEqual((stopped.exception.accepted, stopped.exception.number), (512, 9))
+            store.feed_all(0, Sample.FIRST, [1] * (LONGEST + 1))
+        self.assertEqual((stopped.exception.accepted, stopped.exception.number), (LONGEST, 9))
         self.refused(9, store, "feed", 0, Sample.FIRST, 0)
+        store.feed_all(0, Sample.SECOND, [1] * LONGEST)
+        rows, score = store.report(0)
+        self.assertEqual((rows, score), ((Row(Kind.SHARED, EMPTY, (0, 2 * LONGEST, 0, 0, 0, 0, 0, 0)),), -12288))
 
     def test_past_the_reservation(self):
         store = opened()
@@ -117,12 +122,13 @@ class Refusals(unittest.TestCase):
 
     def test_files(self):
         faults = [(13, []), (13, [2, 1, 1, 1, 0]), (14, [2, 0x80, 0]), (15, [9]), (15, [2, 1, 1, 1, 0, 2])]
+        faults += [(15, [2, 0, *TOO_LONG, 1]), (15, [2, 0, 1, *TOO_LONG])]
         for number, file in [*faults, (16, [2, 1, 1, 1, 0, 1, 0])]:
             with self.assertRaises(Refusal) as refused:
                 read(file)
             self.assertEqual(refused.exception.number, number)
-        file = read(bytes([2, 0, 0x80, 4, 1]) + b"\1" * 512 + b"\0")
-        self.assertEqual(file, (2, 0, b"\1" * 512, b"\0"))
+        file = read(bytes([2, 0, 0x80, 0x10, 1]) + b"\1" * LONGEST + b"\0")
+        self.assertEqual(file, (2, 0, b"\1" * LONGEST, b"\0"))
 
     def test_charts_and_kept_stores(self):
         store = Store(8)

@@ -4,7 +4,7 @@
 use sobumikeyo::{read, Desk, Refusal, Sample, Store, ROW_WIDTH};
 use std::io::{Read, Write};
 
-const INPUT_BYTES: u64 = 2048;
+const INPUT_BYTES: u64 = 4608;
 const ROOM: u32 = 256;
 const SHEET_ROWS: usize = 512;
 

@@ -103,14 +103,14 @@ mod tests {
         let (short, long) = ([1; 127], [1; 128]);
         written(&[&[2, 1, 127, 0x80, 1][..], &short, &long].concat(), &short, &long, 2, 1);
         written(&[&[2, 1, 0x80, 1, 127][..], &long, &short].concat(), &long, &short, 2, 1);
-        let longest = [2; 512];
-        written(&[&[3, 0, 0x80, 4, 0x80, 4][..], &longest, &longest].concat(), &longest, &longest, 3, 0);
+        let longest = [2; 2048];
+        written(&[&[3, 0, 0x80, 0x10, 0x80, 0x10][..], &longest, &longest].concat(), &longest, &longest, 3, 0);
     }
 
     #[test]
     fn bad_values_go_before_too_few_bytes() {
-        let too_long = [0; 513];
-        for room in [0, 3, 5, 600] {
+        let too_long = [0; 2049];
+        for room in [0, 3, 5, 2100] {
             refused(15, &[0], &[1], 1, 0, room);
             refused(15, &[0], &[1], 9, 0, room);
             refused(15, &[0], &[1], 2, 7, room);

@@ -96,7 +96,7 @@ const WORDS: [(&str, &str); 19] = [
         "The sitting has no such sample, symbol or context.",
         "Name sample 0 or 1, symbols below the alphabet's size, and contexts no longer than the depth.",
     ),
-    ("The sample already has 512 symbols.", "Feed it no more; further acts need a sitting of their own."),
+    ("The sample already has 2,048 symbols.", "Feed it no more; further acts need a sitting of their own."),
     (
         "The sitting would have more contexts than it reserved.",
         "Reserve more at opening, or take a smaller depth, and feed both samples again.",
@@ -114,7 +114,7 @@ const WORDS: [(&str, &str); 19] = [
     ),
     (
         "A number of the file, read or to be written, is outside its limits.",
-        "Keep the alphabet from 2 to 8, the depth to 6, each length to 512, and each symbol below the alphabet's size. \
+        "Keep the alphabet from 2 to 8, the depth to 6, each length to 2,048, and each symbol below the alphabet's size. \
          If it is a symbol in a file, a salvage keeps its sample up to it.",
     ),
     ("The file goes on after its last symbol.", "Take the last bytes away, as a salvage does, or correct the lengths in its header."),

@@ -99,6 +99,8 @@ mod tests {
         saved(&[3, 1, 1, 2, 2, 0, 1], [0, 2, 1, 1, 0], &[3, 1, 3, 4, 2, 3, 1, 0, 1, 0x80]);
         // a file that ends in its first sample misses all of its second
         saved(&[3, 1, 1, 0, 2], [1, 1, 4, 0, 0], &[3, 1, 3, 4, 2, 3]);
+        // the largest lengths that a header may have
+        saved(&[2, 6, 1, 0, 0], [2047, 0, 2048, 0, 0], &[2, 6, 0x80, 0x10, 0x80, 0x10, 0]);
     }
 
     /// A length of two groups that becomes one of one group: the saved file is shorter by a byte more than what is lost.
@@ -122,6 +124,10 @@ mod tests {
                 refused(14, longer, room);
             }
             for outside in [&[9][..], &[1, 0x80, 0], &[2, 7, 0, 0], &[2, 0, 0xff, 0x7f, 0], &[2, 0, 0, 0xff, 0x7f]] {
+                refused(15, outside, room);
+            }
+            // one more than the largest length
+            for outside in [&[2, 0, 0x81, 0x10, 0][..], &[2, 0, 0x80, 0x10, 0x81, 0x10]] {
                 refused(15, outside, room);
             }
         }

@@ -4,8 +4,9 @@ use crate::{calls, Chart, Context, Point, Refusal, Stopped};
 
 /// The largest room that a making accepts.
 const LARGEST_ROOM: u32 = 4096;
-/// How many rows a report's sheet has, as the program's. What a row costs keeps reports of 512 + 512 symbols far below it.
-const SHEET_ROWS: usize = 512;
+/// How many rows a report's sheet has, twice the program's, which some reports on three symbols pass. What a row costs keeps every report
+/// below this: by estimate, those of strings below 600.
+const SHEET_ROWS: usize = 1024;
 
 /// How many numbers a store for so many contexts has.
 pub const fn store_size(room: u32) -> usize {

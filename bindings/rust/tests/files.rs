@@ -6,7 +6,7 @@ use std::ops::RangeInclusive;
 use std::path::Path;
 
 const LARGEST_BYTE: u32 = 255;
-const LIMIT: usize = 512;
+const LIMIT: usize = 2048;
 const ALPHABETS: RangeInclusive<u32> = 2..=8;
 const DEPTHS: RangeInclusive<u32> = 0..=6;
 const LENGTHS: RangeInclusive<u32> = 0..=LIMIT as u32;
@@ -77,7 +77,7 @@ impl Draw {
 
     /// A sample of symbols below the alphabet's size; one in four has one symbol more that may be any.
     fn sample(&mut self, alphabet: u32) -> Vec<u8> {
-        let longest = [8, 200, LIMIT as u32 + 8][self.below(3) as usize];
+        let longest = [8, 200, (LIMIT + LIMIT / 64) as u32][self.below(3) as usize];
         let mut symbols: Vec<u8> = (0..self.below(longest)).map(|_| self.below(alphabet.max(1)) as u8).collect();
         if self.below(4) == 0 {
             let any = [alphabet, LARGEST_BYTE + 1][self.below(2) as usize];

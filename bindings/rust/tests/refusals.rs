@@ -1,7 +1,8 @@
 //! Each refusal by its number, at its limit; a refused call leaves every number as it was.
-use sobumikeyo::{read, store_size, Chart, Context, Desk, Point, Refusal, Sample, Store};
+use sobumikeyo::{read, store_size, Chart, Context, Desk, Kind, Point, Refusal, Row, Sample, Store};
 
 const DESK: Desk = Desk(0);
+const LONGEST: usize = 2048;
 
 /// Makes a call that must be refused with that number and write nothing.
 fn refused<T: std::fmt::Debug>(number: u32, store: &mut Store, call: impl Fn(&mut Store) -> Result<T, Refusal>) {
@@ -76,9 +77,13 @@ fn samples_symbols_and_contexts() {
 fn the_longest_sample() {
     let mut store = Store::new(1).unwrap();
     store.open(DESK, 2, 0, 1).unwrap();
-    let stopped = store.feed_all(DESK, Sample::FIRST, &[1; 513]).unwrap_err();
-    assert_eq!((stopped.accepted, stopped.refusal.number()), (512, 9));
+    let stopped = store.feed_all(DESK, Sample::FIRST, &[1; LONGEST + 1]).unwrap_err();
+    assert_eq!((stopped.accepted as usize, stopped.refusal.number()), (LONGEST, 9));
     refused(9, &mut store, |s| s.feed(DESK, Sample::FIRST, 0));
+    store.feed_all(DESK, Sample::SECOND, &[1; LONGEST]).unwrap();
+    let report = store.report(DESK).unwrap();
+    let row = Row { kind: Kind::Shared, context: Context::of(&[]).unwrap(), counts: [0, 2 * LONGEST as u32, 0, 0, 0, 0, 0, 0] };
+    assert_eq!((report.rows, report.score), (vec![row], -12288));
 }
 
 #[test]
@@ -121,12 +126,14 @@ fn makings() {
 fn files() {
     let faults: [(u32, &[u8]); 6] =
         [(13, &[]), (13, &[2, 1, 1, 1, 0]), (14, &[2, 0x80, 0]), (15, &[9]), (15, &[2, 1, 1, 1, 0, 2]), (16, &[2, 1, 1, 1, 0, 1, 0])];
-    for (number, file) in faults {
+    // one more than the largest length
+    let too_long: [(u32, &[u8]); 2] = [(15, &[2, 0, 0x81, 0x10, 1]), (15, &[2, 0, 1, 0x81, 0x10])];
+    for (number, file) in faults.into_iter().chain(too_long) {
         assert_eq!(read(file).unwrap_err().number(), number);
     }
-    let long = [&[2, 0, 0x80, 4, 1][..], &[1; 512], &[0]].concat();
+    let long = [&[2, 0, 0x80, 0x10, 1][..], &[1; LONGEST], &[0]].concat();
     let file = read(&long).unwrap();
-    assert_eq!((file.first, file.second), (&[1; 512][..], &[0][..]));
+    assert_eq!((file.first, file.second), (&[1; LONGEST][..], &[0][..]));
 }
 
 #[test]

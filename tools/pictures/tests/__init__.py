@@ -8,4 +8,4 @@ REPOSITORY = Path(__file__).resolve().parents[3]
 ACTS = REPOSITORY / "samples" / "acts.names"
 ALIKE = REPOSITORY / "samples" / "alike.sitting"
 NAMED = ("one_habit", "longer_memory")  # drawn with the acts' names
-NUMBERED = ("apart", "no_memory", "deep")
+NUMBERED = ("apart", "no_memory", "deep", "longest")
