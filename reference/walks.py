@@ -3,7 +3,6 @@
 from reference.contexts import code
 from reference.inputs import drawn_length, drawn_sample, weighted
 from reference.limits import ALPHABETS, DEPTHS, DESKS, ROW, SAMPLE_LIMIT, SAMPLES, store_length
-from reference.rows import estimate
 from reference.script import FEEDALL_SYMBOLS, LARGEST, SHEET_NUMBERS, STORE_NUMBERS, Player, call
 
 # Numbers at and beyond the limits, put in the place of good ones.
@@ -118,7 +117,7 @@ def report(walk):
     desk = walk.some_desk(ready if ready and random.random() < 0.9 else walk.open_desks())
     sitting = walk.sitting_at(desk)
     place = walk.odd(random.choice([0, 0, 1, random.randrange(20)]))
-    needed = len(estimate(sitting.value())[0]) if sitting and all(sitting.samples) else 1
+    needed = len(sitting.estimate()[0]) if sitting and all(sitting.samples) else 1
     just = min(ROW * (place + needed), SHEET_NUMBERS)
     plenty = random.choice([just, min(just + 5, SHEET_NUMBERS), SHEET_NUMBERS])
     length = weighted(random, [(just, 3), (plenty, 3), (max(just - 1, 0), 1), (random.randrange(just + 1), 1)])

@@ -11,10 +11,11 @@ from pathlib import Path
 from random import Random
 from unittest.mock import patch
 
-from reference import checks, salvage, sitting_file
+from reference import checks, salvage, sitting_file, store
 from reference.answers import Lost, Refused, Shape, Written
 from reference.built import NOT_WRITTEN, BuiltSalvage
-from reference.checks import CHECKS, check_longer_input, check_salvage, check_saved, check_sound, header_by_forms
+from reference.checks import CHECKS, check_held, check_longer_input, check_salvage, check_saved, check_sound
+from reference.checks import header_by_forms
 from reference.difference import Difference
 from reference.inputs import fixed_damages
 from reference.program import INPUT_BYTES
@@ -243,6 +244,10 @@ class Checks(unittest.TestCase):
                 check(Random(seed), tally)
             self.assertGreater(sum(tally.values()), 0, check.__name__)
 
+    def test_counts_not_renewed_by_a_feed_are_found(self):
+        with patch.object(store, "count_place", lambda *_: None), self.assertRaises(Difference):
+            for seed in range(20):
+                check_held(Random(seed), Counter())
 
     def test_wrong_salvages_are_found(self):
         """The second program's own, with one of its definitions changed."""
