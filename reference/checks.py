@@ -13,7 +13,7 @@ from reference.difference import Difference, demand_equal
 from reference.estimate import Recursion, Scale
 from reference.inputs import damaged_file, drawn_file, drawn_room, drawn_sample, drawn_sitting, drawn_values
 from reference.inputs import file_to_salvage
-from reference.limits import ALPHABETS, COUNTS, DEPTHS
+from reference.limits import ALPHABETS, BOTH_SAMPLES, COUNTS, DEPTHS
 from reference.logarithm import L, follows_rule
 from reference.program import INPUT_BYTES
 from reference.replay import CLOSING_QUESTIONS, replay_of
@@ -32,7 +32,7 @@ WHOLE_TREE_STRINGS = 1000
 
 def check_logarithm(random, tally):
     """The rule at one n, which L need not have been asked before."""
-    n = random.randrange(1, 1025)
+    n = random.randrange(1, BOTH_SAMPLES + 1)
     if not follows_rule(n, L(n)):
         raise Difference("logarithm", n, L=L(n))
     tally["logarithm: values held to the rule", ""] += 1
@@ -132,12 +132,12 @@ def check_written(random, tally):
 
 
 def check_damaged(random, tally):
-    """14, 15 and 16 stay whatever follows, 13 stands for every part that ends sooner, and the first
-    2,048 bytes show the fault."""
+    """14, 15 and 16 stay whatever follows, 13 stands for every part that ends sooner, and the bytes that the
+    program reads show the fault."""
     file = damaged_file(random)
     answer = read(file)
     asked = file.hex()
-    demand_equal("first 2,048 bytes", asked, whole_input=answer, program=read(file[:INPUT_BYTES]))
+    demand_equal(f"first {INPUT_BYTES:,} bytes", asked, whole_input=answer, program=read(file[:INPUT_BYTES]))
     if answer == Refused(13):
         demand_equal("part of a file that ends", asked, rule=answer, read=read(file[: random.randrange(len(file) + 1)]))
     elif isinstance(answer, Refused):

@@ -14,10 +14,11 @@ from unittest.mock import patch
 from reference import checks, salvage, sitting_file, store
 from reference.answers import Lost, Refused, Shape, Written
 from reference.built import NOT_WRITTEN, BuiltSalvage
-from reference.checks import CHECKS, check_held, check_longer_input, check_salvage, check_saved, check_sound
-from reference.checks import header_by_forms
+from reference.checks import CHECKS, check_held, check_longer_input, check_salvage, check_saved
+from reference.checks import check_sound, header_by_forms
 from reference.difference import Difference
-from reference.inputs import fixed_damages
+from reference.inputs import drawn_sitting, fixed_damages
+from reference.limits import SAMPLE_LIMIT
 from reference.program import INPUT_BYTES
 from reference.replay import accepted, by_sitting, replay_of
 from reference.salvage import losses
@@ -243,6 +244,12 @@ class Checks(unittest.TestCase):
             for seed in range(3):
                 check(Random(seed), tally)
             self.assertGreater(sum(tally.values()), 0, check.__name__)
+
+    def test_both_samples_of_full_length_are_drawn(self):
+        random = Random("full length")
+        lengths = Counter(tuple(map(len, drawn_sitting(random).samples)) for _ in range(2000))
+        self.assertGreater(lengths[SAMPLE_LIMIT, SAMPLE_LIMIT], 0)
+        self.assertGreater(sum(count for pair, count in lengths.items() if max(pair) < 65), 1000)
 
     def test_counts_not_renewed_by_a_feed_are_found(self):
         with patch.object(store, "count_place", lambda *_: None), self.assertRaises(Difference):
