@@ -12,7 +12,7 @@ from reference.counts import UNSEEN, N, counts_by_place, total
 from reference.difference import Difference, demand_equal
 from reference.estimate import Recursion, Scale
 from reference.inputs import damaged_file, drawn_file, drawn_room, drawn_sample, drawn_sitting, drawn_values
-from reference.inputs import file_to_salvage
+from reference.inputs import file_to_salvage, smaller_limit
 from reference.limits import ALPHABETS, BOTH_SAMPLES, COUNTS, DEPTHS
 from reference.logarithm import L, follows_rule
 from reference.program import INPUT_BYTES
@@ -189,6 +189,22 @@ def header_by_forms(file):
     return Shape(*numbers), file
 
 
+def check_smaller_limit(random, tally):
+    """A reader of a smaller limit gives 15 where a header has a longer length, whatever follows it, and else the same
+    answer. Where the header is not whole it may come to a longer length, and so to 15, before the fault."""
+    file = random.choice([drawn_file, drawn_file, damaged_file])(random)
+    header = header_by_forms(file)
+    lengths = header[0][2:] if header else ()
+    limit = smaller_limit(random, lengths)
+    answer, smaller = read(file), read(file, limit)
+    if header or smaller != Refused(15):
+        rule = Refused(15) if max(lengths, default=0) > limit else answer
+        demand_equal("reader of a smaller limit", (file.hex(), limit), rule=rule, read=smaller)
+    other = "refused" if isinstance(answer, Refused) else "accepted"
+    kind = f"refused {smaller.number}" if isinstance(smaller, Refused) else "accepted"
+    tally["reader of a smaller limit: files", f"{kind} and {other}"] += 1
+
+
 def longest_good(sample, A):
     """The longest beginning of the sample's bytes whose largest is below A."""
     return sample[: sum(largest < A for largest in accumulate(sample, max))]
@@ -311,6 +327,7 @@ CHECKS = [
     (check_whole_tree, 3),
     (check_written, 10),
     (check_damaged, 30),
+    (check_smaller_limit, 20),
     (check_writing, 20),
     (check_written_again, 10),
     (check_salvage, 20),

@@ -302,6 +302,13 @@ def drawn_room(random, file):
     return random.choice([0, max(len(file) - 1, 0), len(file), len(file) + 1, random.randrange(2 * SAMPLE_LIMIT + 80)])
 
 
+def smaller_limit(random, lengths):
+    """A sample limit below the one in force: mostly at one of the lengths, just below or just above it, else any."""
+    near = [length + more for length in lengths for more in (-1, 0, 1)]
+    limit = random.choice([*near, random.randrange(SAMPLE_LIMIT)])
+    return min(max(limit, 0), SAMPLE_LIMIT - 1)
+
+
 def fixed_files():
     """Files at the limits of document 01 and at each reading of its file rules."""
     marked = [

@@ -69,6 +69,30 @@ class Accepted(unittest.TestCase):
         self.assertEqual(samples_of(file, read(file)), ((), (2, 1)))
 
 
+class OtherLimits(unittest.TestCase):
+    """Request E2: "a reader of the old limit refuses a longer file with 15 and never cuts it"."""
+
+    def test_a_longer_file_is_refused_with_15(self):
+        for first, second in [(513, 0), (0, 513), (513, 513), (2048, 2048), (1, 2048)]:
+            file = write(2, 0, (0,) * first, (1,) * second)
+            self.assertEqual(read(file), Shape(2, 0, first, second))
+            self.assertEqual(read(file, 512), Refused(15))
+            self.assertEqual(read(file, max(first, second) - 1), Refused(15))
+            self.assertEqual(read(file, max(first, second)), Shape(2, 0, first, second))
+
+    def test_whatever_follows_its_lengths(self):
+        """15 stands at its own number, before a missing or bad symbol and before more bytes."""
+        for text in ("02 00 04 00", "02 00 03 04", "02 00 04 00 02", "02 00 04 00 01 01 01 01 01"):
+            self.assertEqual(read(bytes.fromhex(text), 3), Refused(15), text)
+
+    def test_other_files_get_the_same_answer(self):
+        for text in ("", "09", "02 07", "02 00 80 00", "02 00 03", "02 00 03 03", "02 00 01 00 02", "02 00 01 00 01 01"):
+            self.assertEqual(read(bytes.fromhex(text), 3), read_hex(text), text)
+        for text in ("02 00 00 00", "02 00 03 02 00 01 00 01 01"):
+            self.assertEqual(read(bytes.fromhex(text), 3), read_hex(text))
+            self.assertIsInstance(read_hex(text), Shape)
+
+
 LONGEST = (1,) * 2048
 ROOM = 4112  # more bytes than any file has
 BLANK = 0xEE
