@@ -202,7 +202,7 @@ def check_smaller_limit(random, tally):
         demand_equal("reader of a smaller limit", (file.hex(), limit), rule=rule, read=smaller)
     other = "refused" if isinstance(answer, Refused) else "accepted"
     kind = f"refused {smaller.number}" if isinstance(smaller, Refused) else "accepted"
-    tally["reader of a smaller limit: files", f"{kind} and {other}"] += 1
+    tally["reader of a smaller limit and the reader: files", f"{kind} and {other}"] += 1
 
 
 def longest_good(sample, A):
