@@ -101,7 +101,8 @@ class BuiltScripts(Built):
             calls = parse(path.read_text())
             player = Player()
             self.compare([(step, player.play(step)) for step in calls], tally)
-        self.compare(every_length().steps, tally)
+        for walk in every_length():
+            self.compare(walk.steps, tally)
 
     def compare_drawn(self, random, tally):
         """A run of walks one after another, as many as a script may hold, each from its own making."""

@@ -4,14 +4,16 @@ Each function draws one case from `random`, raises a Difference where the ways p
 the tally what it compared.
 """
 
+from itertools import accumulate
+
 from reference.answers import Lost, Refused, Salvaged, Shape, Written
 from reference.contexts import strings_up_to
 from reference.counts import UNSEEN, N, counts_by_place, total
 from reference.difference import Difference, demand_equal
 from reference.estimate import Recursion, Scale
 from reference.inputs import damaged_file, drawn_file, drawn_room, drawn_sample, drawn_sitting, drawn_values
-from reference.inputs import file_to_salvage
-from reference.limits import ALPHABETS, DEPTHS
+from reference.inputs import file_to_salvage, smaller_limit
+from reference.limits import ALPHABETS, BOTH_SAMPLES, COUNTS, DEPTHS
 from reference.logarithm import L, follows_rule
 from reference.program import INPUT_BYTES
 from reference.replay import CLOSING_QUESTIONS, replay_of
@@ -30,10 +32,14 @@ WHOLE_TREE_STRINGS = 1000
 
 def check_logarithm(random, tally):
     """The rule at one n, which L need not have been asked before."""
-    n = random.randrange(1, 1025)
+    n = random.randrange(1, BOTH_SAMPLES + 1)
     if not follows_rule(n, L(n)):
         raise Difference("logarithm", n, L=L(n))
     tally["logarithm: values held to the rule", ""] += 1
+
+
+def counts_of(sample, s):
+    return tuple(N(sample, s, a) for a in range(COUNTS))
 
 
 def check_counts(random, tally):
@@ -42,22 +48,22 @@ def check_counts(random, tally):
     sample = drawn_sample(random, A, random.randrange(60))
     counts = counts_by_place(sample, D)
     for s in strings_up_to(A, D):
-        worded = tuple(N(sample, s, a) for a in range(8))
-        demand_equal("counts", (sample, s), worded=worded, by_place=counts.get(s, UNSEEN))
+        demand_equal("counts", (sample, s), worded=counts_of(sample, s), by_place=counts.get(s, UNSEEN))
         tally["counts: contexts, N(s,a) as worded against place by place", ""] += 1
 
 
 def check_held(random, tally):
-    """The contexts held, renewed feed by feed, against the strings with N(s) > 0 in either sample."""
+    """The contexts held and their counts, renewed feed by feed, against the strings with N(s) > 0 and their N(s,a)."""
     A, D = random.choice([(2, 4), (3, 3), (4, 2), (8, 1)])
     sitting = OpenSitting(A, D, 4096)
     for _ in range(random.randrange(50)):
-        sample, symbol = random.randrange(2), random.randrange(A)
-        sitting.held = sitting.held_with(sample, symbol)
-        sitting.samples[sample].append(symbol)
-    seen = {s for s in strings_up_to(A, D) if any(total(tuple(sample), s, A) for sample in sitting.samples)}
-    demand_equal("contexts held", sitting.value(), worded=seen, by_feeds=sitting.held)
-    tally["contexts held: sittings, feed by feed against N(s) > 0", ""] += 1
+        sitting.feed(random.randrange(2), random.randrange(A))
+    asked = sitting.value()
+    seen = [{s for s in strings_up_to(A, D) if total(sample, s, A)} for sample in asked.samples]
+    demand_equal("contexts held", asked, worded=seen[0] | seen[1], by_feeds=sitting.held)
+    worded = [{s: counts_of(sample, s) for s in strings} for sample, strings in zip(asked.samples, seen)]
+    demand_equal("their counts", asked, worded=worded, by_feeds=list(sitting.seen))
+    tally["contexts held and their counts: sittings, feed by feed against N(s,a)", ""] += 1
 
 
 def check_enumeration(random, tally):
@@ -126,12 +132,12 @@ def check_written(random, tally):
 
 
 def check_damaged(random, tally):
-    """14, 15 and 16 stay whatever follows, 13 stands for every part that ends sooner, and the first
-    2,048 bytes show the fault."""
+    """14, 15 and 16 stay whatever follows, 13 stands for every part that ends sooner, and the bytes that the
+    program reads show the fault."""
     file = damaged_file(random)
     answer = read(file)
     asked = file.hex()
-    demand_equal("first 2,048 bytes", asked, whole_input=answer, program=read(file[:INPUT_BYTES]))
+    demand_equal(f"first {INPUT_BYTES:,} bytes", asked, whole_input=answer, program=read(file[:INPUT_BYTES]))
     if answer == Refused(13):
         demand_equal("part of a file that ends", asked, rule=answer, read=read(file[: random.randrange(len(file) + 1)]))
     elif isinstance(answer, Refused):
@@ -183,9 +189,25 @@ def header_by_forms(file):
     return Shape(*numbers), file
 
 
+def check_smaller_limit(random, tally):
+    """A reader of a smaller limit gives 15 where a header has a longer length, whatever follows it, and else the same
+    answer. Where the header is not whole it may come to a longer length, and so to 15, before the fault."""
+    file = random.choice([drawn_file, drawn_file, damaged_file])(random)
+    header = header_by_forms(file)
+    lengths = header[0][2:] if header else ()
+    limit = smaller_limit(random, lengths)
+    answer, smaller = read(file), read(file, limit)
+    if header or smaller != Refused(15):
+        rule = Refused(15) if max(lengths, default=0) > limit else answer
+        demand_equal("reader of a smaller limit", (file.hex(), limit), rule=rule, read=smaller)
+    other = "refused" if isinstance(answer, Refused) else "accepted"
+    kind = f"refused {smaller.number}" if isinstance(smaller, Refused) else "accepted"
+    tally["reader of a smaller limit and the reader: files", f"{kind} and {other}"] += 1
+
+
 def longest_good(sample, A):
     """The longest beginning of the sample's bytes whose largest is below A."""
-    return max((sample[:length] for length in range(len(sample) + 1) if max(sample[:length], default=0) < A), key=len)
+    return sample[: sum(largest < A for largest in accumulate(sample, max))]
 
 
 def saved_of(damaged):
@@ -278,14 +300,14 @@ def check_longer_input(random, tally):
 def check_replay(random, tally):
     """A walk over eight desks against its accepted calls played sitting by sitting on a new store."""
     walk = drawn_walk(random, remake=False)
-    player = Player()
+    player, text = Player(), walk.text()
     for step, lines in replay_of(walk):
-        demand_equal(f"replay of {step.line()}", walk.text(), walk=lines, replay=player.play(step))
+        demand_equal(f"replay of {step.line()}", text, walk=lines, replay=player.play(step))
         tally["demand 3: accepted calls played again sitting by sitting", step.name] += 1
-    demand_equal("desks at the end", walk.text(), walk=desks_of(walk.store), replay=desks_of(player.store))
+    demand_equal("desks at the end", text, walk=desks_of(walk.store), replay=desks_of(player.store))
     for question in CLOSING_QUESTIONS:
         answers = walk.player.play(question), player.play(question)
-        demand_equal(f"last question {question.line()}", walk.text(), walk=answers[0], replay=answers[1])
+        demand_equal(f"last question {question.line()}", text, walk=answers[0], replay=answers[1])
     tally["demand 3: walks", ""] += 1
     for step, lines in walk.steps:
         tally[f"demand 3: {step.name} in the walks", answer_kind(lines)] += 1
@@ -305,6 +327,7 @@ CHECKS = [
     (check_whole_tree, 3),
     (check_written, 10),
     (check_damaged, 30),
+    (check_smaller_limit, 20),
     (check_writing, 20),
     (check_written_again, 10),
     (check_salvage, 20),

@@ -27,6 +27,14 @@ def contexts_at(sample, i, D):
     return [before(sample, i, length) for length in range(min(D, i - 1) + 1)]
 
 
+def count_place(counts, sample, i, D):
+    """Each context that stands before place i has been followed by its symbol once more."""
+    a = sample[i - 1]
+    for s in contexts_at(sample, i, D):
+        row = counts.get(s, UNSEEN)
+        counts[s] = row[:a] + (row[a] + 1,) + row[a + 1 :]
+
+
 def counts_by_place(sample, D):
     """The counts of every context that the sample has seen, taken place by place, oldest first.
 
@@ -34,6 +42,5 @@ def counts_by_place(sample, D):
     """
     counts = {}
     for i in range(1, len(sample) + 1):
-        for s in contexts_at(sample, i, D):
-            counts.setdefault(s, list(UNSEEN))[sample[i - 1]] += 1
-    return {s: tuple(row) for s, row in counts.items()}
+        count_place(counts, sample, i, D)
+    return counts

@@ -39,11 +39,11 @@ def fit(counts):
 
 
 class Scale:
-    """Fits, costs and scores over the counts of one sitting."""
+    """Fits, costs and scores over the counts of one sitting, which are taken from its samples where none are given."""
 
-    def __init__(self, sitting):
+    def __init__(self, sitting, seen=None):
         self.A, self.D = sitting.A, sitting.D
-        self.seen = [counts_by_place(sample, sitting.D) for sample in sitting.samples]
+        self.seen = seen or [counts_by_place(sample, sitting.D) for sample in sitting.samples]
         n, m = map(len, sitting.samples)
         self.costs = {kind: (self.A - 1) * L(length) for kind, length in ((SHARED, n + m), (FIRST, n), (SECOND, m))}
 

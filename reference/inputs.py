@@ -10,8 +10,9 @@ from reference.sitting_file import number_bytes, write
 
 SAMPLES = Path(__file__).resolve().parents[1] / "samples"
 
-# Which lengths are drawn, and how often: short ones for ties, long ones for deep trees.
-LENGTHS = [(range(0, 3), 1), (range(1, 9), 6), (range(9, 65), 5), (range(65, 400), 3), (range(505, 513), 1)]
+# Which lengths are drawn, and how often: short ones for ties, long ones for deep trees, the longest seldom.
+LENGTHS = [(range(0, 3), 4), (range(1, 9), 24), (range(9, 65), 20), (range(65, 400), 12)]
+LENGTHS += [(range(400, SAMPLE_LIMIT), 2), (range(SAMPLE_LIMIT - 2, SAMPLE_LIMIT + 1), 2)]
 
 
 def weighted(random, choices):
@@ -139,7 +140,7 @@ def lengthened(random, file):
 
 def made_too_long(random, file):
     """More bytes than the program reads."""
-    return file + random.randbytes(random.choice([2040, 2048, 2049, 5000]))
+    return file + random.randbytes(random.choice([INPUT_BYTES - 8, INPUT_BYTES, INPUT_BYTES + 1, 2 * INPUT_BYTES]))
 
 
 def other_byte(random, file):
@@ -164,8 +165,13 @@ def three_groups(random, file):
     return exchanged(random, file, bytes(groups))
 
 
+# around one group and two, and around the limit
+EDGE_LENGTHS = [0, 1, *range(126, 130), 255, 256, *range(SAMPLE_LIMIT - 2, SAMPLE_LIMIT + 3), SAMPLE_LIMIT + 128]
+
+
 def two_groups(random, file):
-    return exchanged(random, file, number_bytes(random.choice([128, 129, 255, 511, 512, 513, 514, 600, 16383])))
+    two = [length for length in EDGE_LENGTHS if length > 127]
+    return exchanged(random, file, number_bytes(random.choice([*two, 1000, 16383])))
 
 
 def byte_left_out(random, file):
@@ -228,7 +234,7 @@ def ends_in_second(random, first, second):
 
 def goes_on(random, first, second):
     """A few bytes more, or many more than any file has."""
-    return first + second + random.randbytes(random.choice([1, 2, random.randrange(9, 5000), 70000]))
+    return first + second + random.randbytes(random.choice([1, 2, random.randrange(9, 2 * INPUT_BYTES), 70000]))
 
 
 ENDS = [whole_samples, ends_in_first, ends_in_second, goes_on]
@@ -264,10 +270,6 @@ def with_sample(random, sitting, change):
     return sitting._replace(samples=tuple(samples))
 
 
-# around one group and two, and around the limit
-EDGE_LENGTHS = [0, 1, *range(126, 130), 255, 256, *range(SAMPLE_LIMIT - 2, SAMPLE_LIMIT + 3), SAMPLE_LIMIT + 128]
-
-
 def other_length(random, sitting):
     length = random.choice(EDGE_LENGTHS)
     return with_sample(random, sitting, lambda sample: ((sample or (0,)) * length)[:length])
@@ -300,6 +302,13 @@ def drawn_room(random, file):
     return random.choice([0, max(len(file) - 1, 0), len(file), len(file) + 1, random.randrange(2 * SAMPLE_LIMIT + 80)])
 
 
+def smaller_limit(random, lengths):
+    """A sample limit below the one in force: mostly at one of the lengths, just below or just above it, else any."""
+    near = [length + more for length in lengths for more in (-1, 0, 1)]
+    limit = random.choice([*near, random.randrange(SAMPLE_LIMIT)])
+    return min(max(limit, 0), SAMPLE_LIMIT - 1)
+
+
 def fixed_files():
     """Files at the limits of document 01 and at each reading of its file rules."""
     marked = [
@@ -313,6 +322,8 @@ def fixed_files():
     limits = [
         (2, 6, longest, longest),
         (8, 6, longest, longest),
+        (2, 6, full_length(de_bruijn(2, 7)), full_length(de_bruijn(2, 6))),
+        (5, 3, full_length(de_bruijn(5, 4)), longest),
         (2, 0, longest, ()),
         (2, 0, (), longest),
         (2, 0, (), ()),
@@ -352,10 +363,11 @@ ff
 02ff
 0201ff
 02018104
-02018004
+02018110
+02018010
 0201800300
-02018004ff
-0200800400
+02018010ff
+0200801000
 0201010100
 02010101
 0201010180
@@ -397,6 +409,11 @@ def de_bruijn(A, length):
         symbols.append(new)
 
 
+def full_length(symbols):
+    """The symbols again and again, as many as a sample holds."""
+    return (symbols * SAMPLE_LIMIT)[:SAMPLE_LIMIT]
+
+
 def held_limits():
     """Sittings that hold just the program's 256 contexts and one more, and refusals 10 that come before 11."""
     many = de_bruijn(3, 5)
@@ -406,8 +423,9 @@ def held_limits():
 
 def too_long():
     """The longest accepted file, and bytes past it up to and past what the program reads."""
-    longest = write(2, 1, (0, 1) * 256, (0,) * SAMPLE_LIMIT)
-    return [longest, *(longest + bytes(2048 - len(longest) + more) for more in (-1, 0, 1)), bytes(2048), b"\x02" * 4096]
+    longest = write(2, 1, full_length((0, 1)), full_length((0,)))
+    longer = [longest.ljust(INPUT_BYTES + more, b"\0") for more in (-1, 0, 1)]
+    return [longest, *longer, bytes(INPUT_BYTES), b"\x02" * (2 * INPUT_BYTES)]
 
 
 def every_cut(file):
@@ -439,8 +457,9 @@ def edges_of_two_groups():
 
 def with_long_ends(file):
     """The file with bytes after it: around what the program reads, around what it counts at a time, and far above."""
-    lengths = [length + more for length in (INPUT_BYTES, 2**12, 2**16, INPUT_BYTES + 2**16) for more in (-1, 0, 1)] + [300000]
-    return [file + b"\xff" * (length - len(file)) for length in lengths]
+    edges = INPUT_BYTES, 2**12, INPUT_BYTES + 2**12, 2**16, INPUT_BYTES + 2**16
+    lengths = [edge + more for edge in edges for more in (-1, 0, 1)] + [300000]
+    return [file.ljust(length, b"\xff") for length in lengths]
 
 
 def fixed_damages():

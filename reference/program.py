@@ -7,21 +7,20 @@ import sys
 
 from reference.answers import Refused
 from reference.command import Parser, run, standard_input
-from reference.limits import ROW
+from reference.limits import ROW, SHEET_ROWS
 from reference.sitting_file import read, samples_of
 from reference.store import Store
 
-INPUT_BYTES = 2048
+INPUT_BYTES = 4608
 STORE_NUMBERS = 8192
 K = 256
-SHEET_ROWS = 512
 COMMAND = "python3 -m reference.program"
 
 
 def output(file):
     """The program's whole output for the bytes at standard input.
 
-    Longer input is judged on its first 2,048 bytes.
+    Longer input is judged on its first 4,608 bytes.
     """
     lines = answer_lines(file[:INPUT_BYTES])
     return "".join(line + "\n" for line in lines)

@@ -10,7 +10,7 @@ from typing import NamedTuple
 
 from reference.answers import Both, Done, First, Neither, Refused, Report, Room, Second
 from reference.command import Parser, run, standard_input
-from reference.limits import ROW, SAMPLE_LIMIT
+from reference.limits import BOTH_SAMPLES, ROOMS, ROW, SHEET_ROWS, store_length
 from reference.store import Store
 
 # Each call's name at its opcode, and the numbers that follow it.
@@ -29,9 +29,9 @@ OPCODES = {name: opcode for opcode, (name, _) in CALLS.items()}
 
 LARGEST = 2**32 - 1  # of every number in a script
 SCRIPT_BYTES = 65536
-STORE_NUMBERS = 2048 + 24 * 4096  # what the player lends at most: the longest store
-SHEET_NUMBERS = ROW * SAMPLE_LIMIT
-FEEDALL_SYMBOLS = 1024
+STORE_NUMBERS = store_length(ROOMS[-1])  # what the player lends at most: the longest store
+SHEET_NUMBERS = ROW * SHEET_ROWS
+FEEDALL_SYMBOLS = BOTH_SAMPLES
 BLANK_SHEET = LARGEST  # the sheet is filled with it before each report
 
 UNKNOWN = "unknown"

@@ -15,10 +15,11 @@ class Fault(Exception):
 
 
 class Reading:
-    """A file and how many of its bytes have been read."""
+    """A file, how many of its bytes have been read, and which lengths of samples are read."""
 
-    def __init__(self, file):
+    def __init__(self, file, limit=SAMPLE_LIMIT):
         self.file = file
+        self.lengths = range(limit + 1)
         self.place = 0
 
     def group(self):
@@ -45,7 +46,7 @@ class Reading:
         return group
 
     def header(self):
-        return Shape(*(self.number(limits) for limits in (ALPHABETS, DEPTHS, LENGTHS, LENGTHS)))
+        return Shape(*(self.number(limits) for limits in (ALPHABETS, DEPTHS, self.lengths, self.lengths)))
 
     def symbols(self, shape):
         for _ in range(shape.n + shape.m):
@@ -57,9 +58,10 @@ class Reading:
             raise Fault(16)
 
 
-def read(file):
-    """A, D, n and m of an accepted file, or the refusal of its first fault from the left."""
-    reading = Reading(file)
+def read(file, limit=SAMPLE_LIMIT):
+    """A, D, n and m of an accepted file, or the refusal of its first fault from the left. Request E2 speaks of readers
+    of two sample limits: the limit is the reader's own."""
+    reading = Reading(file, limit)
     try:
         shape = reading.header()
         reading.symbols(shape)

@@ -7,7 +7,7 @@ not modelled: it is given exactly where no making was accepted yet.
 
 from reference.answers import Both, Done, First, Neither, Refused, Report, Room, Second
 from reference.contexts import string_of
-from reference.counts import N, contexts_at, total
+from reference.counts import N, contexts_at, count_place, total
 from reference.estimate import Sitting
 from reference.limits import ALPHABETS, DEPTHS, DESKS, ROOMS, ROW, SAMPLE_LIMIT, SAMPLES, store_length
 from reference.rows import estimate
@@ -20,6 +20,7 @@ class OpenSitting:
         self.A, self.D, self.reservation = A, D, reservation
         self.samples = ([], [])
         self.held = set()
+        self.seen = ({}, {})
 
     def value(self):
         """The sitting as a report sees it."""
@@ -30,6 +31,17 @@ class OpenSitting:
         and those before the new place."""
         fed = self.samples[sample] + [symbol]
         return self.held | set(contexts_at(fed, len(fed), self.D))
+
+    def feed(self, sample, symbol):
+        """The symbol is the sample's next; the contexts held and their counts are renewed, not taken anew."""
+        symbols = self.samples[sample]
+        symbols.append(symbol)
+        self.held.update(contexts_at(symbols, len(symbols), self.D))
+        count_place(self.seen[sample], symbols, len(symbols), self.D)
+
+    def estimate(self):
+        """The rows and the score of its report."""
+        return estimate(self.value(), self.seen)
 
     def share(self, sample, s, a):
         """N(s,a) / N(s), one division of exact whole numbers; None where the sample did not see s."""
@@ -85,11 +97,9 @@ class Store:
             return Refused(8)
         if len(sitting.samples[sample]) >= SAMPLE_LIMIT:
             return Refused(9)
-        held = sitting.held_with(sample, symbol)
-        if len(held) > sitting.reservation:
+        if len(sitting.held_with(sample, symbol)) > sitting.reservation:
             return Refused(10)
-        sitting.samples[sample].append(symbol)
-        sitting.held = held
+        sitting.feed(sample, symbol)
         return Done()
 
     def close(self, desk):
@@ -115,7 +125,7 @@ class Store:
         sitting = self.desks[desk]
         if not all(sitting.samples):
             return Refused(11)
-        rows, score = estimate(sitting.value())
+        rows, score = sitting.estimate()
         if place + len(rows) > len(sheet) // ROW:
             return Refused(12)
         for row, numbers in enumerate(rows, start=place):

@@ -2,12 +2,12 @@
 
 from reference.contexts import code
 from reference.inputs import drawn_length, drawn_sample, weighted
-from reference.limits import ALPHABETS, DEPTHS, DESKS, ROW, SAMPLE_LIMIT, SAMPLES, store_length
-from reference.rows import estimate
+from reference.limits import ALPHABETS, DEPTHS, DESKS, ROOMS, ROW, SAMPLE_LIMIT, SAMPLES, SHEET_ROWS, store_length
 from reference.script import FEEDALL_SYMBOLS, LARGEST, SHEET_NUMBERS, STORE_NUMBERS, Player, call
 
 # Numbers at and beyond the limits, put in the place of good ones.
-ODD_NUMBERS = [0, 1, 2, 3, 6, 7, 8, 9, 10, 63, 64, 255, 256, 512, 513, 4096, 4097, 65536, 2**31, LARGEST]
+ODD_NUMBERS = [0, 1, 2, 3, 6, 7, 8, 9, 10, 63, 64, 255, 256, 65536, 2**31, LARGEST]
+ODD_NUMBERS += [limit + more for limit in (SHEET_ROWS, SAMPLE_LIMIT, ROOMS[-1]) for more in (0, 1)]
 
 
 class Walk:
@@ -99,7 +99,8 @@ def feed_all(walk):
 def feed_past_limit(walk):
     """More symbols than a sample holds."""
     desk = walk.some_desk(walk.open_desks())
-    walk.play("feedall", desk, walk.random.randrange(2), *[0] * walk.random.choice([512, 513, FEEDALL_SYMBOLS]))
+    count = walk.random.choice([SAMPLE_LIMIT, SAMPLE_LIMIT + 1, FEEDALL_SYMBOLS])
+    walk.play("feedall", desk, walk.random.randrange(2), *[0] * count)
 
 
 def close(walk):
@@ -118,7 +119,7 @@ def report(walk):
     desk = walk.some_desk(ready if ready and random.random() < 0.9 else walk.open_desks())
     sitting = walk.sitting_at(desk)
     place = walk.odd(random.choice([0, 0, 1, random.randrange(20)]))
-    needed = len(estimate(sitting.value())[0]) if sitting and all(sitting.samples) else 1
+    needed = len(sitting.estimate()[0]) if sitting and all(sitting.samples) else 1
     just = min(ROW * (place + needed), SHEET_NUMBERS)
     plenty = random.choice([just, min(just + 5, SHEET_NUMBERS), SHEET_NUMBERS])
     length = weighted(random, [(just, 3), (plenty, 3), (max(just - 1, 0), 1), (random.randrange(just + 1), 1)])
@@ -198,12 +199,20 @@ def play_unmade(walk):
 
 
 def every_length():
-    """One symbol again and again at depth 0, with a report after each feed: the score shows L(n+m) for
-    every n+m from 4 to 1,024."""
+    """One symbol again and again at depth 0, with a report after each feed: the scores show L(n+m) for every n+m
+    from 4 to 4,096. A script has room for half of them, so that a second walk goes on where the first ends."""
+    half = SAMPLE_LIMIT // 2
+    return [lengths_between(0, half), lengths_between(half, SAMPLE_LIMIT)]
+
+
+def lengths_between(begin, end):
+    """Both samples from so many symbols on, up to so many."""
     walk = Walk(random=None)
     walk.play("make", 1, store_length(1))
     walk.play("open", 0, 2, 0, 1)
-    for _ in range(SAMPLE_LIMIT):
+    for sample in SAMPLES:
+        walk.play("feedall", 0, sample, *[0] * begin)
+    for _ in range(begin, end):
         for sample in SAMPLES:
             walk.play("feed", 0, sample, 0)
             walk.play("report", 0, 2 * ROW, 0)
@@ -215,7 +224,7 @@ def spoilt_walk(random):
     walk = drawn_walk(random)
     needed = store_length(walk.store.K)
     for _ in range(random.randrange(1, 4)):
-        place = random.choice([random.randrange(16), random.randrange(2048), random.randrange(needed)])
+        place = random.choice([random.randrange(16), random.randrange(store_length(0)), random.randrange(needed)])
         walk.play("spoil", place, random.choice([*ODD_NUMBERS, random.randrange(2**32)]))
     for _ in range(random.randrange(1, 10)):
         play_some(walk, ACTS)

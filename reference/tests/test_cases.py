@@ -17,6 +17,11 @@ class Cases(unittest.TestCase):
         self.assertEqual((CRATE / "args").read_text().split(), list(files))
         self.assertEqual((CRATE / "stdout").read_text(), printed(files))
 
+    def test_longest(self):
+        sizes = {name: len(file) for name, file in cases().items() if name.startswith(("longest", "46"))}
+        self.assertEqual(set(sizes.values()), {4102, 4607, 4608, 4609})
+        self.assertIn("longest\n2 1 2048 2048 3 -33792\n", printed(cases()))
+
     def test_each_refusal_is_among_them(self):
         for number in (10, 11, 13, 14, 15, 16):
             self.assertIn(f"refused {number}\n", printed(cases()))

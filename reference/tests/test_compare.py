@@ -11,12 +11,14 @@ from pathlib import Path
 from random import Random
 from unittest.mock import patch
 
-from reference import checks, salvage, sitting_file
+from reference import checks, salvage, sitting_file, store
 from reference.answers import Lost, Refused, Shape, Written
 from reference.built import NOT_WRITTEN, BuiltSalvage
-from reference.checks import CHECKS, check_longer_input, check_salvage, check_saved, check_sound, header_by_forms
+from reference.checks import CHECKS, check_held, check_longer_input, check_salvage, check_saved, check_smaller_limit
+from reference.checks import check_sound, header_by_forms
 from reference.difference import Difference
-from reference.inputs import fixed_damages
+from reference.inputs import drawn_sitting, fixed_damages
+from reference.limits import ALPHABETS, DEPTHS, SAMPLE_LIMIT
 from reference.program import INPUT_BYTES
 from reference.replay import accepted, by_sitting, replay_of
 from reference.salvage import losses
@@ -223,6 +225,27 @@ def deaf_header(reading):
     return Shape(*(reading.number(range(2**14)) for _ in range(4)))
 
 
+def cutting_header(reading):
+    """Lengths above the limit are cut to it."""
+    A, D, n, m = deaf_header(reading)
+    return Shape(A, D, min(n, reading.lengths[-1]), min(m, reading.lengths[-1]))
+
+
+def late_header(reading):
+    """15 is given only where both lengths have been read and no symbol is missing."""
+    A, D, n, m = deaf_header(reading)
+    if max(n, m) > reading.lengths[-1] and len(reading.file) >= reading.place + n + m:
+        raise sitting_file.Fault(15)
+    return Shape(A, D, n, m)
+
+
+def strict_header(reading):
+    """A sample must be shorter than the limit."""
+    return Shape(*(reading.number(limits) for limits in (ALPHABETS, DEPTHS, reading.lengths[:-1], reading.lengths[:-1])))
+
+
+WRONG_HEADERS = [deaf_header, cutting_header, late_header, strict_header]
+
 WRONG_DEFINITIONS = {
     "keeps one byte less": (salvage, "kept", lambda sample, A: bytes(takewhile(lambda byte: byte < A, sample))[:-1]),
     "drops the byte A-1": (salvage, "kept", lambda sample, A: bytes(takewhile(lambda byte: byte < A - 1, sample))),
@@ -243,6 +266,23 @@ class Checks(unittest.TestCase):
                 check(Random(seed), tally)
             self.assertGreater(sum(tally.values()), 0, check.__name__)
 
+    def test_wrong_limits_of_readers_are_found(self):
+        for header in WRONG_HEADERS:
+            wrong = patch.object(sitting_file.Reading, "header", header)
+            with self.subTest(header.__name__), wrong, self.assertRaises(Difference):
+                for seed in range(200):
+                    check_smaller_limit(Random(seed), Counter())
+
+    def test_both_samples_of_full_length_are_drawn(self):
+        random = Random("full length")
+        lengths = Counter(tuple(map(len, drawn_sitting(random).samples)) for _ in range(2000))
+        self.assertGreater(lengths[SAMPLE_LIMIT, SAMPLE_LIMIT], 0)
+        self.assertGreater(sum(count for pair, count in lengths.items() if max(pair) < 65), 1000)
+
+    def test_counts_not_renewed_by_a_feed_are_found(self):
+        with patch.object(store, "count_place", lambda *_: None), self.assertRaises(Difference):
+            for seed in range(20):
+                check_held(Random(seed), Counter())
 
     def test_wrong_salvages_are_found(self):
         """The second program's own, with one of its definitions changed."""

@@ -20,14 +20,18 @@ def estimate_of(D, first, second, A=2):
 
 class Logarithm(unittest.TestCase):
     def test_marked_values(self):
-        marked = {0: 0, 1: 0, 3: 1623, 5: 2377, 9: 3246, 1023: 10238, 1024: 10240}
+        marked = {0: 0, 1: 0, 3: 1623, 5: 2377, 9: 3246, 1023: 10238, 1024: 10240, 4096: 12288}
         self.assertEqual({n: L(n) for n in marked}, marked)
 
     def test_rule_holds_everywhere(self):
-        self.assertTrue(all(follows_rule(n, L(n)) for n in range(1, 1025)))
+        self.assertTrue(all(follows_rule(n, L(n)) for n in range(1, 4097)))
 
     def test_near_the_floating_logarithm(self):
-        self.assertTrue(all(abs(L(n) - floor(1024 * log2(n))) <= 1 for n in range(1, 1025)))
+        self.assertTrue(all(abs(L(n) - floor(1024 * log2(n))) <= 1 for n in range(1, 4097)))
+
+    def test_range(self):
+        for n in (-1, 4097):
+            self.assertRaises(ValueError, L, n)
 
 
 class Examples(unittest.TestCase):
@@ -70,9 +74,18 @@ class Limits(unittest.TestCase):
 
     def test_sample(self):
         self.store.open(0, 2, 0, 1)
-        self.assertEqual([self.store.feed(0, 1, 0) for _ in range(513)], [Done()] * 512 + [Refused(9)])
+        self.assertEqual([self.store.feed(0, 1, 0) for _ in range(2049)], [Done()] * 2048 + [Refused(9)])
         self.assertEqual(self.store.feed(0, 0, 0), Done())
-        self.assertEqual(self.store.report(0, [0] * 22, 0), Report(2, -9216))
+        # L(2048) and L(2049) are both 11264: a tie, and the shared leaf goes first
+        self.assertEqual(self.store.report(0, [0] * 22, 0), Report(1, -11264))
+
+    def test_both_samples(self):
+        self.store.open(0, 2, 0, 1)
+        for sample in (0, 1):
+            self.assertEqual([self.store.feed(0, sample, 0) for _ in range(2049)], [Done()] * 2048 + [Refused(9)])
+        sheet = [0] * 11
+        self.assertEqual(self.store.report(0, sheet, 0), Report(1, -12288))
+        self.assertEqual(tuple(sheet), row(0, 0, 0, 4096))
 
     def test_room_left(self):
         self.assertEqual(self.store.open(0, 2, 0, 9), Refused(6))

@@ -3,7 +3,10 @@
 import subprocess
 import sys
 import unittest
+from unittest.mock import patch
 
+from reference import program
+from reference.answers import Refused
 from reference.counts import counts_by_place
 from reference.inputs import de_bruijn, fixed_files
 from reference.program import output
@@ -41,10 +44,16 @@ class Program(unittest.TestCase):
 
     def test_longer_input_shows_a_fault(self):
         self.assertEqual(output(EXAMPLE + bytes(5000)), "refused 16\n")
-        longest = write(2, 0, (0,) * 512, (1,) * 512)
-        self.assertEqual(output(longest), "2 0 512 512 2 -18432\n1 0 0 512 0\n2 0 0 0 512\n")
-        self.assertEqual(output(longest + bytes(1018)), "refused 16\n")
-        self.assertEqual(output(longest + bytes(1019)), "refused 16\n")
+        longest = write(2, 0, (0,) * 2048, (1,) * 2048)
+        self.assertEqual(output(longest), "2 0 2048 2048 2 -22528\n1 0 0 2048 0\n2 0 0 0 2048\n")
+        for more in (505, 506, 507):
+            self.assertEqual(output(longest + bytes(more)), "refused 16\n")
+
+    def test_4608_bytes_are_judged(self):
+        for length, judged in [(4607, 4607), (4608, 4608), (4609, 4608), (70000, 4608)]:
+            with patch.object(program, "read", return_value=Refused(16)) as reader:
+                output(bytes(length))
+            reader.assert_called_once_with(bytes(judged))
 
     def test_fixed_files_show_every_answer(self):
         printed = {output(file).split("\n")[0] for file in fixed_files()}

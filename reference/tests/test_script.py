@@ -2,12 +2,15 @@
 
 import struct
 import unittest
+from pathlib import Path
 from random import Random
 
 from reference.built import SCRIPTS, answers_of
 from reference.logarithm import L
 from reference.script import SCRIPT_BYTES, BadScript, Call, Player, call, parse, play
 from reference.walks import drawn_walk, every_length, spoilt_walk
+
+PLAYER = Path(__file__).resolve().parents[2] / "crates" / "player"
 
 
 class Language(unittest.TestCase):
@@ -22,8 +25,12 @@ class Language(unittest.TestCase):
     def test_what_is_no_script(self):
         for text in ("9", "0 4", "2 0 0 4294967296", "8 0 0 3 1 1"):
             self.assertRaises(BadScript, parse, text)
-        for text in ("0 1 100353", "5 0 5633 0", "7 100352 0"):
+        for text in ("0 1 100353", "5 0 5633 0", "7 100352 0", "8 0 0 4097" + " 0" * 4097):
             self.assertRaises(BadScript, play, "0 1 9999 " + text)
+
+    def test_the_longest_run(self):
+        answers = play("0 1 9999 1 0 2 0 1 8 0 0 4096" + " 0" * 4096)
+        self.assertEqual(answers[2], ["fed 2048 refused 9"])
 
     def test_feedall_stops_at_the_first_refusal(self):
         answers = play("0 9 9999 1 0 2 1 2 8 0 0 4 0 1 0 1 8 0 0 0 8 1 0 1 0 6 0 1 0 1")
@@ -46,6 +53,17 @@ class Kept(unittest.TestCase):
             printed = "".join(line + "\n" for lines in play(path.read_text()) for line in lines)
             self.assertEqual(printed, path.with_suffix(".answers").read_text(), path.name)
 
+    def test_the_crate_plays_them_in_a_row(self):
+        """`refusals` first, since only there no store is made yet."""
+        order = ("refusals", "marked", "splits", "limits", "desks")
+        for kind, file in [("script", "stdin"), ("answers", "stdout")]:
+            in_a_row = "".join((SCRIPTS / f"{name}.{kind}").read_text() for name in order)
+            self.assertEqual((PLAYER / file).read_text(), in_a_row, file)
+
+    def test_the_greatest_logarithm_is_there(self):
+        """Both samples of 2,048 symbols, and their shared root."""
+        self.assertIn(f"report 1 {-L(4096)}\n0 0 0 4096 ", (SCRIPTS / "limits.answers").read_text())
+
     def test_every_refusal_is_there(self):
         text = "".join(path.read_text() for path in SCRIPTS.glob("*.answers"))
         for number in [*range(1, 13), 17, 18]:
@@ -54,11 +72,11 @@ class Kept(unittest.TestCase):
 
 class Walks(unittest.TestCase):
     def test_every_length_shows_the_logarithm(self):
-        walk = every_length()
-        self.assertLessEqual(len(walk.text()), SCRIPT_BYTES)
-        reports = [lines[0] for step, lines in walk.steps if step.name == "report"]
+        walks = every_length()
+        self.assertTrue(all(len(walk.text()) <= SCRIPT_BYTES for walk in walks))
+        reports = [lines[0] for walk in walks for step, lines in walk.steps if step.name == "report"]
         self.assertEqual(reports[0], "refused 11")
-        self.assertEqual(reports[3:], [f"report 1 {-L(length)}" for length in range(4, 1025)])
+        self.assertEqual(reports[3:], [f"report 1 {-L(length)}" for length in range(4, 4097)])
 
     def test_played_again_from_their_text(self):
         for seed in range(6):

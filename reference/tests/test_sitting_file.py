@@ -30,8 +30,8 @@ class Readings(unittest.TestCase):
         self.refused(14, "80 00", "89 00", "02 87 00", "02 00 80 00")
 
     def test_5_limits_stand_at_their_own_number(self):
-        self.refused(15, "00", "01", "09", "02 07", "02 00 81 04", "02 00 00 81 04", "80 01", "02 80 01")
-        self.refused(13, "02 00 80 04", "02 00 80 04 80 04")
+        self.refused(15, "00", "01", "09", "02 07", "02 00 81 10", "02 00 00 81 10", "80 01", "02 80 01")
+        self.refused(13, "02 00 80 10", "02 00 80 10 80 10", "02 00 81 04", "02 00 00 81 04")
 
     def test_6_a_missing_symbol_is_found_where_the_file_ends(self):
         self.refused(13, "02 00 02 00 00", "02 00 01 01 00")
@@ -53,13 +53,13 @@ class Readings(unittest.TestCase):
 class Accepted(unittest.TestCase):
     def test_smallest_and_largest(self):
         self.assertEqual(read_hex("02 00 00 00"), Shape(2, 0, 0, 0))
-        longest = (7,) * 512
+        longest = (7,) * 2048
         file = write(8, 6, longest, longest)
-        self.assertEqual(len(file), 1030)
-        self.assertEqual(read(file), Shape(8, 6, 512, 512))
+        self.assertEqual(len(file), 4102)
+        self.assertEqual(read(file), Shape(8, 6, 2048, 2048))
 
     def test_lengths_in_two_groups(self):
-        for length in (127, 128, 129, 255, 256, 511, 512):
+        for length in (127, 128, 129, 255, 256, 512, 513, 2047, 2048):
             file = write(2, 1, (1,) * length, (0,))
             self.assertEqual(read(file), Shape(2, 1, length, 1))
             self.assertEqual(samples_of(file, read(file)), ((1,) * length, (0,)))
@@ -69,8 +69,32 @@ class Accepted(unittest.TestCase):
         self.assertEqual(samples_of(file, read(file)), ((), (2, 1)))
 
 
-LONGEST = (1,) * 512
-ROOM = 1040  # more bytes than any file has
+class OtherLimits(unittest.TestCase):
+    """Request E2: "a reader of the old limit refuses a longer file with 15 and never cuts it"."""
+
+    def test_a_longer_file_is_refused_with_15(self):
+        for first, second in [(513, 0), (0, 513), (513, 513), (2048, 2048), (1, 2048)]:
+            file = write(2, 0, (0,) * first, (1,) * second)
+            self.assertEqual(read(file), Shape(2, 0, first, second))
+            self.assertEqual(read(file, 512), Refused(15))
+            self.assertEqual(read(file, max(first, second) - 1), Refused(15))
+            self.assertEqual(read(file, max(first, second)), Shape(2, 0, first, second))
+
+    def test_whatever_follows_its_lengths(self):
+        """15 stands at its own number, before a missing or bad symbol and before more bytes."""
+        for text in ("02 00 04 00", "02 00 03 04", "02 00 04 00 02", "02 00 04 00 01 01 01 01 01"):
+            self.assertEqual(read(bytes.fromhex(text), 3), Refused(15), text)
+
+    def test_other_files_get_the_same_answer(self):
+        for text in ("", "09", "02 07", "02 00 80 00", "02 00 03", "02 00 03 03", "02 00 01 00 02", "02 00 01 00 01 01"):
+            self.assertEqual(read(bytes.fromhex(text), 3), read_hex(text), text)
+        for text in ("02 00 00 00", "02 00 03 02 00 01 00 01 01"):
+            self.assertEqual(read(bytes.fromhex(text), 3), read_hex(text))
+            self.assertIsInstance(read_hex(text), Shape)
+
+
+LONGEST = (1,) * 2048
+ROOM = 4112  # more bytes than any file has
 BLANK = 0xEE
 
 
@@ -93,7 +117,8 @@ class Writing(unittest.TestCase):
         self.assertEqual(self.written((), (), 8, 6).hex(" "), "08 06 00 00")
 
     def test_lengths_in_their_shortest_form(self):
-        forms = {0: "00", 1: "01", 127: "7f", 128: "80 01", 129: "81 01", 256: "80 02", 511: "ff 03", 512: "80 04"}
+        forms = {0: "00", 1: "01", 127: "7f", 128: "80 01", 129: "81 01", 256: "80 02"}
+        forms |= {512: "80 04", 513: "81 04", 2047: "ff 0f", 2048: "80 10"}
         for length, form in forms.items():
             symbols = (1,) * length
             self.assertEqual(self.written(symbols, (), 2, 0), bytes.fromhex(f"02 00 {form} 00") + bytes(symbols))
@@ -106,7 +131,7 @@ class Writing(unittest.TestCase):
             self.refused(15, (), (), A, D)
 
     def test_limits_of_lengths(self):
-        self.assertEqual(len(self.written(LONGEST, LONGEST, 2, 0)), 1030)
+        self.assertEqual(len(self.written(LONGEST, LONGEST, 2, 0)), 4102)
         self.refused(15, LONGEST + (1,), (), 2, 0)
         self.refused(15, (), LONGEST + (1,), 2, 0)
 

@@ -57,7 +57,7 @@ class Refusals(unittest.TestCase):
 
     def test_8_before_9_before_10(self):
         store = store_with(D=0, reservation=1)
-        feed_all(store, 0, "0" * 512)
+        self.assertEqual(feed_all(store, 0, "0" * 2048), [Done()] * 2048)
         self.assertEqual([store.feed(0, 0, 2), store.feed(0, 0, 0)], [Refused(8), Refused(9)])
         self.assertEqual(store.feed(0, 1, 0), Done())
 

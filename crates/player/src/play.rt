@@ -46,7 +46,7 @@ const SPOIL: u32 = 7;
 const FEED_ALL: u32 = 8;
 
 // The most symbols of one run of feeds.
-const RUN_SYMBOLS: usize = 1024;
+const RUN_SYMBOLS: usize = 4096;
 
 // Plays the whole script. Before the first making its calls lend all the numbers.
 // Every call goes on past its opcode; the test of that is what shows that the play ends.
