@@ -9,7 +9,7 @@ from pathlib import Path
 
 REPOSITORY = Path(__file__).resolve().parents[2]
 MODULES = ("cases", "compare", "program", "salvage", "script")
-SCRIPTS = [".ci/run", "bench/before", "bench/constants", "bench/crates", "bench/programs", "bench/run"]
+SCRIPTS = [".ci/run", "bench/before", "bench/constants", "bench/crates", "bench/programs", "bench/run", "bench/source_tables"]
 SCRIPTS += ["bindings/readme", "bindings/test", "samples/make"]
 SCRIPTS += ["bindings/python/build", "bindings/python/play.py", "bindings/python/sitting.py", "tools/picture"]
 NAMES = SCRIPTS + [f"python3 -m reference.{module}" for module in MODULES]
@@ -18,6 +18,7 @@ LONGEST = 60  # seconds
 
 # What takes the path of a file: a command, and its words before the path.
 FILES = [("bench/before",), ("bench/constants",), ("bench/crates",), ("bench/run",), ("samples/make",), ("tools/picture",)]
+FILES += [("bench/source_tables", "--program")]
 FILES += [("tools/picture", "samples/alike.sitting", "--names")]
 FILES += [("python3 -m reference.compare", option) for option in ("--program", "--scripts", "--salvage")]
 # What a file holds that no command can use.
@@ -32,6 +33,8 @@ WRONG = [
     ("python3 -m reference.script", [], b"9", "no call has the number 9"),
     ("python3 -m reference.script", [], b"2 0 0", "ends within a call"),
     ("python3 -m reference.script", [], b"3 " + b"9" * 5000, "more than 32 bits"),
+    ("bench/source_tables", ["--rounds", "0"], b"", "from 1 up"),
+    ("bench/source_tables", ["--depth", "7"], b"", "--depth"),
     ("bindings/python/play.py", [], b"9", "no call has the number 9"),
     ("bindings/python/sitting.py", [], EXAMPLE, "no library at /nowhere"),
 ]
