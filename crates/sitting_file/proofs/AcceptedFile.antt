@@ -27,13 +27,26 @@ never e =
     let z : _≡_ {A = ℕ} 0 1 = cc in
     absurd (omega arith)
 
-pub shape-same : {s t : Shape} → Accepted s ≡ Accepted t → s ≡ t
+shape-same : {s t : Shape} → Accepted s ≡ Accepted t → s ≡ t
 shape-same e = cc
 
 module _ (file : List ℕ) (shape told : Shape) where
+  -- what is accepted is what the header announced
+  pub announced : (left at : ℕ) → symbolsFrom file shape left at ≡ Accepted told → shape ≡ told
+  unfolding symbolsFrom
+  announced zero at e = go (ltb at (length file)) e
+    where
+      go : (t : Bool) → cond t (Refused BytesLeft) (Accepted shape) ≡ Accepted told → shape ≡ told
+      go true e = never e
+      go false e = shape-same e
+  announced (suc left) at e = go (numberAt file at 0 (shape .alphabet - 1)) (announced left) e
+    where
+      go : (n : Number) → ((next : ℕ) → symbolsFrom file shape left next ≡ Accepted told → shape ≡ told) → andThen n Refused (λ _ next. symbolsFrom file shape left next) ≡ Accepted told → shape ≡ told
+      go (Value v next) onward e = onward next e
+      go (Fault why) onward e = never e
+
   -- the symbols that are left take the rest of the file, a byte each
   record Ended (left at : ℕ) : Type 0 where
-    told-same : shape ≡ told
     ends : at + left ≡ length file
     below : (i : ℕ) → at ≤ i → i < length file → getD file i 0 < shape .alphabet
 
@@ -45,7 +58,7 @@ module _ (file : List ℕ) (shape told : Shape) where
       go true t e = never e
       go false t e =
           let done : length file ≤ at = ltb-false at (length file) t in
-          record { told-same = shape-same e; ends = omega arith; below = λ i g k. absurd (omega arith) }
+          record { ends = omega arith; below = λ i g k. absurd (omega arith) }
   symbols-accepted l (suc left) at h e = go (numberAt file at 0 (shape .alphabet - 1)) refl (symbols-accepted l left) e
     where
       go : (n : Number) → numberAt file at 0 (shape .alphabet - 1) ≡ n → ((next : ℕ) → next ≤ length file → symbolsFrom file shape left next ≡ Accepted told → Ended left next) → andThen n Refused (λ _ next. symbolsFrom file shape left next) ≡ Accepted told → Ended (suc left) at
@@ -59,7 +72,6 @@ module _ (file : List ℕ) (shape told : Shape) where
           let end = r .ends in
           let small : getD file at 0 < shape .alphabet = omega arith in
           record {
-            told-same = r .told-same;
             ends = omega arith;
             below = λ i g k. elim (order at i) [
               | less o ↦ r .below i (omega arith) k
@@ -110,4 +122,4 @@ accepted-holds file shape e = go (headerOf file) refl e
     go (Whole read at) q e =
         let h = header-read file read at q in
         let r = symbols-accepted file read shape (h .limits) (read .first + read .second) at (h .ends) e in
-        subst (Holds file) (r .told-same) (holds file read at (r .ends) (h .limits) (h .place) (r .below))
+        subst (Holds file) (announced file read shape (read .first + read .second) at e) (holds file read at (r .ends) (h .limits) (h .place) (r .below))

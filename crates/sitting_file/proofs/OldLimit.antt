@@ -1,19 +1,15 @@
 -- A reader of a smaller sample limit answers as one of a larger, or 15. Assumes nothing.
-use Prim.Native.Nat.{ℕ, zero, suc, _+_, _-_, _<_, _≤_}
+use Prim.Native.Nat.{ℕ, _+_, _<_, _≤_}
 use mathlib.Core.Path.{_≡_, refl, sym, ap, _∙_}
 use mathlib.Core.Logic.{_⊎_, inl, inr}
-use mathlib.Core.Bool.{Bool, true, false, cond}
 use mathlib.Core.List.{List}
 use native.Mathlib.Decide.{decLe}
 use native.Mathlib.Omega.{arith}
-use lib.ListN.{length, drop}
-use lib.Dec.{ltb}
-use Rattle.sitting_file.specs.Format.{numberAt, andThen, headerUpTo, symbolsFrom, bodyOf, readUpTo}
-use Rattle.sitting_file.specs.OldLimit.{OldAndNew, OldLimit}
+use lib.ListN.{drop}
+use Rattle.sitting_file.specs.Format.{numberAt, headerUpTo, bodyOf, readUpTo}
+use Rattle.sitting_file.specs.OldLimit.{OldLimit}
 use Rattle.sitting_file.specs.declared.Shape.{Shape}
-use Rattle.sitting_file.specs.declared.Refusal.{Refusal}
-use Rattle.sitting_file.specs.declared.Refusal.the-variants.{OutsideLimits, BytesLeft}
-use Rattle.sitting_file.specs.declared.Number.{Number}
+use Rattle.sitting_file.specs.declared.Refusal.the-variants.{OutsideLimits}
 use Rattle.sitting_file.specs.declared.Number.the-variants.{Value, Fault}
 use Rattle.sitting_file.specs.declared.Heading.{Heading}
 use Rattle.sitting_file.specs.declared.Heading.the-variants.{Whole, Faulty}
@@ -21,7 +17,7 @@ use Rattle.sitting_file.specs.declared.Reading.the-variants.{Accepted, R
 use Rattle.sitting_file.proofs.Places.{above-high, inside}
 use Rattle.sitting_file.proofs.Groups.{number-found, judged-again}
 use Rattle.sitting_file.proofs.Stages.{first-refused, second-refused, header-whole, FourFound, four-found}
-use Rattle.sitting_file.proofs.AcceptedFile.{never, shape-same}
+use Rattle.sitting_file.proofs.AcceptedFile.{never, announced}
 
 module _ (file : List ℕ) where
   -- ---- a number that was found under one limit, under another
@@ -63,20 +59,6 @@ module _ (file : List ℕ) where
 
   -- ---- the whole file
 
-  -- what is accepted is what the header announced
-  announced : (shape told : Shape) (left at : ℕ) → symbolsFrom file shape left at ≡ Accepted told → shape ≡ told
-  unfolding symbolsFrom
-  announced shape told zero at e = go (ltb at (length file)) e
-    where
-      go : (t : Bool) → cond t (Refused BytesLeft) (Accepted shape) ≡ Accepted told → shape ≡ told
-      go true e = never e
-      go false e = shape-same e
-  announced shape told (suc left) at e = go (numberAt file at 0 (shape .alphabet - 1)) (announced shape told left) e
-    where
-      go : (n : Number) → ((next : ℕ) → symbolsFrom file shape left next ≡ Accepted told → shape ≡ told) → andThen n Refused (λ _ next. symbolsFrom file shape left next) ≡ Accepted told → shape ≡ told
-      go (Value v next) onward e = onward next e
-      go (Fault why) onward e = never e
-
   -- the header of a file that is accepted
   head-of : (limit : ℕ) (shape : Shape) → readUpTo limit file ≡ Accepted shape → (at : ℕ) × (headerUpTo limit file ≡ Whole shape at)
   unfolding bodyOf
@@ -84,7 +66,7 @@ module _ (file : List ℕ) where
     where
       go : (h : Heading) → headerUpTo limit file ≡ h → bodyOf file h ≡ Accepted shape → (at : ℕ) × (headerUpTo limit file ≡ Whole shape at)
       go (Faulty why) q e = never e
-      go (Whole read at) q e = (at, q ∙ ap (λ (s : Shape). Whole s at) (announced read shape (read .first + read .second) at e))
+      go (Whole read at) q e = (at, q ∙ ap (λ (s : Shape). Whole s at) (announced file read shape (read .first + read .second) at e))
 
   -- accepted under one limit, and so under another that both samples keep
   accepted-too : (limit other : ℕ) (shape : Shape) → readUpTo limit file ≡ Accepted shape → shape .first ≤ other → shape .second ≤ other → readUpTo other file ≡ Accepted shape
