@@ -11,8 +11,8 @@ from sobumikeyo.refusals import Stopped, refuse_unless_zero
 from sobumikeyo.reports import ROW_WIDTH, Context, Report, row_of
 
 LARGEST_ROOM = 4096
-# Twice the program's sheet, which some reports on three symbols pass. What a row costs keeps every report below this: by
-# estimate, those of strings below 600.
+# Twice the program's sheet, which some reports on three symbols pass. By estimate what a row costs keeps reports of strings
+# below 600.
 SHEET_ROWS = 1024
 
 

@@ -4,8 +4,8 @@ use crate::{calls, Chart, Context, Point, Refusal, Stopped};
 
 /// The largest room that a making accepts.
 const LARGEST_ROOM: u32 = 4096;
-/// How many rows a report's sheet has, twice the program's, which some reports on three symbols pass. What a row costs keeps every report
-/// below this: by estimate, those of strings below 600.
+/// How many rows a report's sheet has, twice the program's, which some reports on three symbols pass. By estimate what a row costs keeps
+/// reports of strings below 600.
 const SHEET_ROWS: usize = 1024;
 
 /// How many numbers a store for so many contexts has.

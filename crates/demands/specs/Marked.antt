@@ -1,6 +1,6 @@
--- "The eleven marked examples (six values, J1 to J5) are proved together by a single statement over a list." The J examples are told of the room's
--- machine: a desk of a new room is opened, the first sample is fed, then the second, and a report is asked for. Beside them stand two with more than
--- two symbols, since no J example tests the factor A - 1. Assumes nothing.
+-- "The eleven marked examples (six values, J1 to J5) are proved together by a single statement over a list." Request E2 adds the value of 4,096. The
+-- J examples are told of the room's machine: a desk of a new room is opened, the first sample is fed, then the second, and a report is asked for. Beside
+-- them stand two with more than two symbols, since no J example tests the factor A - 1. Assumes nothing.
 use Prim.Native.Nat.{ℕ}
 use mathlib.Core.Path.{_≡_}
 use mathlib.Core.List.{List, [], _∷_, _++_, map}

@@ -15,7 +15,7 @@ pub record OldAndNew (old new : ℕ) (file : List ℕ) (shape : Shape) : Type 0 
   pub same : readUpTo new file ≡ Accepted shape → shape .first ≤ old → shape .second ≤ old → readUpTo old file ≡ Accepted shape
   -- "refuses a longer file with 15"
   pub refuses : readUpTo new file ≡ Accepted shape → (old < shape .first) ⊎ (old < shape .second) → readUpTo old file ≡ Refused OutsideLimits
-  -- "and never cuts it": what the old reader accepts is the whole file, as the new one accepts it
+  -- "and never cuts it": what the old reader accepts, the new one accepts with the same A, D, n and m
   pub never-cuts : readUpTo old file ≡ Accepted shape → readUpTo new file ≡ Accepted shape
 
 -- of any two limits, and so of this reader's and any that was before it
