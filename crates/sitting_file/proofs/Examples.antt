@@ -2,10 +2,10 @@
 -- Assumes nothing.
 use Prim.Native.Nat.{ℕ, _+_}
 use mathlib.Core.Path.{_≡_, refl}
-use mathlib.Core.List.{List, [], _∷_, _++_, map}
+use mathlib.Core.List.{List, [], _∷_, map}
 use lib.ListN.{replicate}
 use Rattle.numbers.specs.Limits.{longest}
-use Rattle.sitting_file.specs.Format.{judgedNumber, secondGroup, firstGroup, headerUpTo, symbolsFrom, bodyOf, readOf, refusalNumber}
+use Rattle.sitting_file.specs.Format.{judgedNumber, secondGroup, firstGroup, headerUpTo, symbolsFrom, bodyOf, readUpTo, readOf, refusalNumber}
 use Rattle.sitting_file.specs.Verdict.{shortest}
 use Rattle.sitting_file.specs.declared.Refusal.the-variants.{EndsEarly, NotShortest, OutsideLimits, BytesLeft}
 use Rattle.sitting_file.specs.declared.Reading.{Reading}
@@ -38,7 +38,6 @@ examples =
     ∷ accepted 2 0 0 0 (2 ∷ 0 ∷ 0 ∷ 0 ∷ [])
     ∷ accepted 8 6 1 1 (8 ∷ 6 ∷ 1 ∷ 1 ∷ 7 ∷ 0 ∷ [])
     ∷ accepted 2 1 128 0 (2 ∷ 1 ∷ 0x80 ∷ 1 ∷ 0 ∷ replicate 128 1)
-    ∷ accepted 2 1 longest 0 (2 ∷ 1 ∷ (shortest longest ++ (0 ∷ replicate longest 1)))
     -- 1: a symbol is a number too, and may open a second group
     ∷ ends-early (2 ∷ 0 ∷ 1 ∷ 0 ∷ 0x81 ∷ [])
     ∷ not-shortest (2 ∷ 0 ∷ 1 ∷ 0 ∷ 0x81 ∷ 0 ∷ [])
@@ -78,6 +77,11 @@ examples =
 pub examples-right : map (λ (e : Example). readOf (e .file)) examples ≡ map (λ (e : Example). e .answer) examples
 unfolding shortest judgedNumber secondGroup firstGroup headerUpTo symbolsFrom bodyOf
 examples-right = refl
+
+-- a reader whose limit is 127 refuses the file of 128 symbols
+pub old-limit-right : readUpTo 127 (2 ∷ 1 ∷ 0x80 ∷ 1 ∷ 0 ∷ replicate 128 1) ≡ Refused OutsideLimits
+unfolding judgedNumber secondGroup firstGroup headerUpTo bodyOf
+old-limit-right = refl
 
 -- document 01's numbers of the four refusals
 pub numbers-right : map refusalNumber (EndsEarly ∷ NotShortest ∷ OutsideLimits ∷ BytesLeft ∷ []) ≡ 13 ∷ 14 ∷ 15 ∷ 16 ∷ []
