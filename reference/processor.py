@@ -29,6 +29,9 @@ def toolchain(path):
 
 
 def processor_of(path):
-    """The processor that an ELF file is for, by its number; 0 for any other file."""
-    start = Path(path).read_bytes()[:20]
+    """The processor that an ELF file is for, by its number; 0 for any other file, and for none, of which the run will say so."""
+    try:
+        start = Path(path).read_bytes()[:20]
+    except OSError:
+        return 0
     return int.from_bytes(start[18:20], "little") if start[:4] == b"\x7fELF" else 0

@@ -22,6 +22,7 @@ class Processor(unittest.TestCase):
         self.assertEqual(processor_of(self.file(HEADER + bytes([X86_64, 0]))), X86_64)
         self.assertEqual(processor_of(self.file(HEADER + bytes([183, 0]))), 183)
         self.assertEqual(processor_of(self.file(b"#!/bin/sh\n")), 0)
+        self.assertEqual([processor_of(path) for path in ("", "/nowhere/at/all")], [0, 0])
 
     def test_own_path(self):
         path = self.file(HEADER + bytes([X86_64, 0]))
