@@ -3,6 +3,7 @@ pub mod Oldest
 pub mod Followed
 pub mod Places
 pub mod Totals
+pub mod Children
 pub mod RowOrder
 pub mod KeyOrder
 pub mod Digits

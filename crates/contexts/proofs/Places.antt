@@ -14,7 +14,7 @@ use Rattle.contexts.specs.Context.{eqs, begins}
 use Rattle.contexts.specs.Counts.{places, follows, N-placed, N}
 use Rattle.contexts.proofs.Strings.{eqs→eq, eq→eqs, begins→take, take→begins}
 
-places-ext : (f g : ℕ → Bool) (n : ℕ) → ((i : ℕ) → 0 < i → i ≤ n → f i ≡ g i) → places f n ≡ places g n
+pub places-ext : (f g : ℕ → Bool) (n : ℕ) → ((i : ℕ) → 0 < i → i ≤ n → f i ≡ g i) → places f n ≡ places g n
 places-ext f g zero h = refl
 places-ext f g (suc n) h =
     ap₂ (λ (p q : ℕ). p + q) (places-ext f g n (λ i l u. h i l (omega arith))) (ap one (h (suc n) (omega arith) (omega arith)))

@@ -8,6 +8,7 @@ pub mod Unseen
 pub mod LeafTies
 pub mod JointTies
 pub mod Unique
+pub mod Covering
 pub mod Spreads
 pub mod Tables
 pub mod Adding
