@@ -6,6 +6,10 @@
  * came just before) that both samples treat alike and contexts that are one
  * sample's own, writes a row for each, and scores the whole.
  *
+ * Each sample counts its symbols from place depth + 1 on, for contexts of every
+ * length, so that deep and shallow trees are scored over the same acts. The `depth`
+ * symbols before that place are only what came just before.
+ *
  *     make, open, feed or feed_all, report and chart, close
  *
  * Each function answers 0, or the number of a refusal from the list below. A
@@ -79,7 +83,9 @@ uint32_t sobumikeyo_make(uint32_t *store, size_t store_len, uint32_t room);
 /* Both samples are empty. The sitting may have `reservation` contexts and no more. */
 uint32_t sobumikeyo_open(uint32_t *store, size_t store_len, uint32_t desk, uint32_t alphabet, uint32_t depth, uint32_t reservation);
 
-/* One more symbol of sample 0 or 1. */
+/* One more symbol of sample 0 or 1. Where `depth` symbols are before it, it is counted in the depth + 1 contexts that they end in; */
+/* where fewer are, it is only kept. So a sitting holds no context until a sample has more than `depth` symbols. */
+/* That feed adds depth + 1 contexts at once, a later one at most `depth`. */
 uint32_t sobumikeyo_feed(uint32_t *store, size_t store_len, uint32_t desk, uint32_t sample, uint32_t symbol);
 
 /* Feeds the symbols in their order, up to the first that is refused; answers how many were accepted. */
@@ -96,9 +102,10 @@ uint32_t sobumikeyo_room(const uint32_t *store, size_t store_len, uint32_t *left
 /* Writes the report's rows from row `place` of the sheet on; no number outside those rows is written. */
 /* `rows` is how many there are, and `score` the doubled score, which is never above 0. */
 /* A row's code is the sum of symbol times 8^j, where j is 0 for the most recent symbol of its context. */
+/* Its counts are those of the places from depth + 1 on: all 0 where no sample has more than `depth` symbols. */
 uint32_t sobumikeyo_report(const uint32_t *store, size_t store_len, uint32_t desk, uint32_t *sheet, size_t sheet_len, uint32_t place, uint32_t *rows, int64_t *score);
 
-/* How often, of the times that a sample saw the context of that length and code, the symbol came next. */
+/* How often, of the times that a sample saw the context of that length and code, the symbol came next: places from depth + 1 on. */
 /* `seen` is 0 where neither sample saw the context, 1 the first alone, 2 the second alone, 3 both. */
 /* `first` and `second` are the shares of the samples that saw it; `gap`, first less second, only where both did. */
 /* A share that is not answered stays as it was. */

@@ -7,7 +7,7 @@ the tally what it compared.
 from itertools import accumulate
 
 from reference.answers import Lost, Refused, Salvaged, Shape, Written
-from reference.contexts import strings_up_to
+from reference.contexts import children, strings_up_to
 from reference.counts import UNSEEN, N, counts_by_place, total
 from reference.difference import Difference, demand_equal
 from reference.estimate import Recursion, Scale
@@ -38,30 +38,35 @@ def check_logarithm(random, tally):
     tally["logarithm: values held to the rule", ""] += 1
 
 
-def counts_of(sample, s):
-    return tuple(N(sample, s, a) for a in range(COUNTS))
+def counts_of(sample, s, D):
+    return tuple(N(sample, s, a, D) for a in range(COUNTS))
 
 
 def check_counts(random, tally):
-    """N(s,a) as it is worded against the counts taken place by place, for every string up to a depth."""
-    A, D = random.choice([(2, 4), (3, 3), (4, 2), (5, 2), (8, 1)])
-    sample = drawn_sample(random, A, random.randrange(60))
+    """N(s,a) as it is worded against the counts taken place by place, for every string up to a depth. Every tree is scored
+    over the same places: a context's counts are those of its children together."""
+    A, D = random.choice([(2, 6), (2, 4), (3, 3), (4, 2), (5, 2), (8, 1), (8, 0)])
+    sample = drawn_sample(random, A, random.choice([D, D + 1, random.randrange(60)]))
     counts = counts_by_place(sample, D)
     for s in strings_up_to(A, D):
-        demand_equal("counts", (sample, s), worded=counts_of(sample, s), by_place=counts.get(s, UNSEEN))
+        worded = counts_of(sample, s, D)
+        demand_equal("counts", (D, sample, s), worded=worded, by_place=counts.get(s, UNSEEN))
+        if len(s) < D:
+            added = tuple(map(sum, zip(*(counts.get(child, UNSEEN) for child in children(s, A)))))
+            demand_equal("children's counts", (D, sample, s), worded=worded, added=added)
         tally["counts: contexts, N(s,a) as worded against place by place", ""] += 1
 
 
 def check_held(random, tally):
     """The contexts held and their counts, renewed feed by feed, against the strings with N(s) > 0 and their N(s,a)."""
-    A, D = random.choice([(2, 4), (3, 3), (4, 2), (8, 1)])
+    A, D = random.choice([(2, 6), (2, 4), (3, 3), (4, 2), (8, 1), (8, 0)])
     sitting = OpenSitting(A, D, 4096)
-    for _ in range(random.randrange(50)):
+    for _ in range(random.choice([D, D + 1, random.randrange(50)])):
         sitting.feed(random.randrange(2), random.randrange(A))
     asked = sitting.value()
-    seen = [{s for s in strings_up_to(A, D) if total(sample, s, A)} for sample in asked.samples]
+    seen = [{s for s in strings_up_to(A, D) if total(sample, s, A, D)} for sample in asked.samples]
     demand_equal("contexts held", asked, worded=seen[0] | seen[1], by_feeds=sitting.held)
-    worded = [{s: counts_of(sample, s) for s in strings} for sample, strings in zip(asked.samples, seen)]
+    worded = [{s: counts_of(sample, s, D) for s in strings} for sample, strings in zip(asked.samples, seen)]
     demand_equal("their counts", asked, worded=worded, by_feeds=list(sitting.seen))
     tally["contexts held and their counts: sittings, feed by feed against N(s,a)", ""] += 1
 
@@ -107,12 +112,15 @@ def compare_best(scale, asked, tally, label, whole):
 
 
 def check_whole_tree(random, tally):
-    """The recursion over every string up to D against the one that weighs unseen strings by length."""
+    """The recursion over every string up to D against the one that weighs unseen strings by length. Each place from D+1 on
+    is counted in one row: that of the one context of its sample's tree that stands before it."""
     shapes = [(A, D) for A in ALPHABETS for D in DEPTHS if A**D <= WHOLE_TREE_STRINGS]
     sitting = drawn_sitting(random, shapes)
     scale = Scale(sitting)
     rows = [rows_of(scale, Recursion(scale, whole).triple()) for whole in (True, False)]
     demand_equal("whole tree", sitting, every_string=rows[0], unseen_by_length=rows[1])
+    places = sum(len(range(sitting.D, len(sample))) for sample in sitting.samples)
+    demand_equal("places counted", sitting, rule=places, rows=sum(sum(row[3:]) for row in rows[1]))
     tally["whole tree against unseen strings by length: sittings", ""] += 1
 
 

@@ -1,20 +1,21 @@
-"""Document 01, "Counts and score": what N(s,a) counts. A sample is a tuple of symbols."""
+"""Document 01, "Counts and score", and request E3: what N(s,a) counts in a sitting of depth D. A sample is a tuple of
+symbols."""
 
 from reference.limits import COUNTS
 
 UNSEEN = (0,) * COUNTS
 
 
-def N(sample, s, a):
-    """The places i from |s|+1 to the sample's end where the |s| symbols before place i are s
+def N(sample, s, a, D):
+    """The places i from D+1 to the sample's end where the |s| symbols before place i are s
     and the symbol at i is a. Places count from 1."""
-    places = range(len(s) + 1, len(sample) + 1)
+    places = range(D + 1, len(sample) + 1)
     return sum(1 for i in places if before(sample, i, len(s)) == s and sample[i - 1] == a)
 
 
-def total(sample, s, A):
+def total(sample, s, A, D):
     """N(s) is the sum over a."""
-    return sum(N(sample, s, a) for a in range(A))
+    return sum(N(sample, s, a, D) for a in range(A))
 
 
 def before(sample, i, length):
@@ -23,12 +24,13 @@ def before(sample, i, length):
 
 
 def contexts_at(sample, i, D):
-    """The contexts of up to D symbols that stand before place i, the empty one included."""
-    return [before(sample, i, length) for length in range(min(D, i - 1) + 1)]
+    """The contexts for which place i counts: all of up to D symbols that stand before it, the empty one included. Places
+    up to D count for none."""
+    return [before(sample, i, length) for length in range(D + 1)] if i > D else []
 
 
 def count_place(counts, sample, i, D):
-    """Each context that stands before place i has been followed by its symbol once more."""
+    """Each context for which place i counts has been followed by its symbol once more."""
     a = sample[i - 1]
     for s in contexts_at(sample, i, D):
         row = counts.get(s, UNSEEN)

@@ -415,10 +415,13 @@ def full_length(symbols):
 
 
 def held_limits():
-    """Sittings that hold just the program's 256 contexts and one more, and refusals 10 that come before 11."""
+    """Sittings that hold just the program's 256 contexts and one more, and refusals 10 that come before 11. With many[:154]
+    256 are held; the first place that counts in a second sample, its sixth, adds up to five at once to many[:150]'s 251."""
     many = de_bruijn(3, 5)
     filling = [(3, 5, many[:length], (0,)) for length in range(152, 158)]
-    return filling + [(3, 5, many, ()), (3, 5, (), many)]
+    refilling = [(3, 5, many[:154], many[140:length]) for length in range(152, 158)]
+    at_once = [(4, 5, many[:length], (3,) * count) for length in range(149, 153) for count in (5, 6, 7)]
+    return filling + refilling + at_once + [(3, 5, many, ()), (3, 5, (), many)]
 
 
 def too_long():

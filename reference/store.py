@@ -28,7 +28,7 @@ class OpenSitting:
 
     def held_with(self, sample, symbol):
         """The strings s with N(s) > 0 in either sample, once the symbol is fed: those seen so far
-        and those before the new place."""
+        and those for which the new place counts."""
         fed = self.samples[sample] + [symbol]
         return self.held | set(contexts_at(fed, len(fed), self.D))
 
@@ -45,8 +45,8 @@ class OpenSitting:
 
     def share(self, sample, s, a):
         """N(s,a) / N(s), one division of exact whole numbers; None where the sample did not see s."""
-        seen = total(self.samples[sample], s, self.A)
-        return float(N(self.samples[sample], s, a)) / float(seen) if seen else None
+        seen = total(self.samples[sample], s, self.A, self.D)
+        return float(N(self.samples[sample], s, a, self.D)) / float(seen) if seen else None
 
 
 class Store:

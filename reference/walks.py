@@ -66,11 +66,14 @@ def open_desk(walk):
 
 
 def drawn_reservation(walk):
-    """Some of the room left; now and then all of it, one more, none, or more than there is."""
+    """Some of the room left; now and then around what the first place that counts adds, all of the room, one more, none, or
+    more than there is."""
     left = walk.store.room_left()
     part = walk.random.randrange(1, left + 1) if left else 1
+    few = walk.random.choice(DEPTHS) + 1
     beyond = [left + 1, walk.store.K, walk.store.K + 1, 0]
-    return weighted(walk.random, [(part, 4), (max(left // 4, 1), 6), (left, 1), (walk.random.choice(beyond), 2)])
+    shares = [(part, 4), (max(left // 4, 1), 6), (few, 1), (left, 1), (walk.random.choice(beyond), 2)]
+    return weighted(walk.random, shares)
 
 
 def feed(walk):

@@ -1,8 +1,21 @@
 """The kept cases are what their text makes them, with every refusal that the program can print among them."""
 
+import re
 import unittest
 
-from reference.cases import CRATE, cases, file_of, printed
+from reference.cases import CRATE, HERE, cases, file_of, printed
+from reference.counts import counts_by_place
+from reference.program import output
+from reference.sitting_file import read, samples_of
+
+TEXT = HERE / "cases.txt"
+
+
+def contexts_held(file):
+    """The contexts that either sample has seen."""
+    shape = read(file)
+    first, second = (counts_by_place(sample, shape.D) for sample in samples_of(file, shape))
+    return len({*first, *second})
 
 
 class Cases(unittest.TestCase):
@@ -25,6 +38,18 @@ class Cases(unittest.TestCase):
     def test_each_refusal_is_among_them(self):
         for number in (10, 11, 13, 14, 15, 16):
             self.assertIn(f"refused {number}\n", printed(cases()))
+
+    def test_names_say_the_contexts_held(self):
+        named = {name: file for name, file in cases().items() if name.startswith("held-")}
+        self.assertGreater(len(named), 2)
+        for name, file in named.items():
+            self.assertEqual(contexts_held(file), int(name.split("-")[1]), name)
+
+    def test_the_text_says_how_many_rows(self):
+        """Of the report with the most rows, and how many contexts that sitting holds."""
+        rows, held = map(int, re.search(r"^# many rows: (\d+) of (\d+) contexts", TEXT.read_text(), re.MULTILINE).groups())
+        file = cases()["many-rows"]
+        self.assertEqual((int(output(file).split()[4]), contexts_held(file)), (rows, held))
 
     def test_names_say_the_refusal(self):
         for name, file in cases().items():

@@ -11,11 +11,12 @@ from pathlib import Path
 from random import Random
 from unittest.mock import patch
 
-from reference import checks, salvage, sitting_file, store
+from reference import checks, counts, salvage, sitting_file, store
 from reference.answers import Lost, Refused, Shape, Written
 from reference.built import NOT_WRITTEN, BuiltSalvage
-from reference.checks import CHECKS, check_held, check_longer_input, check_salvage, check_saved, check_smaller_limit
-from reference.checks import check_sound, header_by_forms
+from reference.checks import CHECKS, check_counts, check_held, check_longer_input, check_salvage, check_saved
+from reference.checks import check_smaller_limit, check_sound, header_by_forms
+from reference.counts import before, contexts_at
 from reference.difference import Difference
 from reference.inputs import drawn_sitting, fixed_damages
 from reference.limits import ALPHABETS, DEPTHS, SAMPLE_LIMIT
@@ -258,6 +259,18 @@ WRONG_DEFINITIONS = {
 }
 
 
+def every_place(sample, i, D):
+    return [before(sample, i, length) for length in range(min(D, i - 1) + 1)]
+
+
+def one_place_late(sample, i, D):
+    return contexts_at(sample, i, D) if i > D + 1 else []
+
+
+def one_place_early(sample, i, D):
+    return contexts_at(sample, i, D) if i != D else [()]
+
+
 class Checks(unittest.TestCase):
     def test_each_draws_and_compares(self):
         for check, _ in CHECKS:
@@ -283,6 +296,15 @@ class Checks(unittest.TestCase):
         with patch.object(store, "count_place", lambda *_: None), self.assertRaises(Difference):
             for seed in range(20):
                 check_held(Random(seed), Counter())
+
+    def test_counts_of_other_places_are_found(self):
+        """From |s|+1 on, as before request E3; from one place later; from place D on where there is one."""
+        for places in (every_place, one_place_late, one_place_early):
+            for check, module in [(check_held, store), (check_held, counts), (check_counts, counts)]:
+                wrong = patch.object(module, "contexts_at", places)
+                with self.subTest((places.__name__, module.__name__)), wrong, self.assertRaises(Difference):
+                    for seed in range(20):
+                        check(Random(seed), Counter())
 
     def test_wrong_salvages_are_found(self):
         """The second program's own, with one of its definitions changed."""

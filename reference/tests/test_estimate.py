@@ -1,12 +1,13 @@
 """Counts, trees, triples, the recursion and the rows."""
 
 import unittest
+from collections import Counter
 from itertools import product
 from random import Random
 
 from reference.checks import DrawnScale
-from reference.contexts import code, string_of, strings_up_to
-from reference.counts import N, total
+from reference.contexts import children, code, string_of, strings_up_to
+from reference.counts import N, counts_by_place, total
 from reference.estimate import Recursion, Scale, Sitting, Triple, fit
 from reference.inputs import drawn_sample
 from reference.rows import estimate, rows_of
@@ -26,18 +27,45 @@ def sitting(A, D, first, second):
 
 
 class Counts(unittest.TestCase):
-    def test_places_near_the_start(self):
-        """A child's counts do not add up to the parent's: place 1 has no symbol before it."""
+    def test_every_context_counts_the_same_places(self):
+        """Document 01's sample 0101 at depth 1: place 1 counts for no context, the empty one too."""
         sample = (0, 1, 0, 1)
-        self.assertEqual([N(sample, (), a) for a in (0, 1)], [2, 2])
-        self.assertEqual([N(sample, (0,), a) for a in (0, 1)], [0, 2])
-        self.assertEqual([N(sample, (1,), a) for a in (0, 1)], [1, 0])
-        self.assertEqual(total(sample, (0, 1), 2), 1)
-        self.assertEqual(total(sample, (1, 0, 1, 0, 1), 2), 0)
+        self.assertEqual([N(sample, (), a, 1) for a in (0, 1)], [1, 2])
+        self.assertEqual([N(sample, (0,), a, 1) for a in (0, 1)], [0, 2])
+        self.assertEqual([N(sample, (1,), a, 1) for a in (0, 1)], [1, 0])
+        self.assertEqual([total(sample, s, 2, 2) for s in ((), (1,), (0, 1))], [2, 1, 1])
+
+    def test_depth_0_counts_every_place(self):
+        sample = (0, 1, 1, 2)
+        self.assertEqual([N(sample, (), a, 0) for a in range(3)], [1, 2, 1])
+        self.assertEqual(counts_by_place(sample, 0), {(): (1, 2, 1) + (0,) * 5})
+
+    def test_a_sample_no_longer_than_the_depth_has_no_counts(self):
+        for length in range(4):
+            self.assertEqual(counts_by_place((0,) * length, 3), {})
+            self.assertEqual(total((0,) * length, (), 2, 3), 0)
+        self.assertEqual(set(counts_by_place((0, 1, 0, 1), 3)), {(), (0,), (1, 0), (0, 1, 0)})
+
+    def test_a_count_by_hand(self):
+        """Each place from D+1 on is looked at once, and every beginning of its past is noted with its symbol."""
+        random = Random("by hand")
+        for A, D, length in [(2, 6, 40), (3, 3, 3), (3, 3, 4), (8, 1, 60), (5, 0, 9)]:
+            sample = drawn_sample(random, A, length)
+            noted = Counter((sample[i - k : i], sample[i]) for i in range(D, length) for k in range(D + 1))
+            for s, a in product(strings_up_to(A, D), range(A)):
+                self.assertEqual(N(sample, s, a, D), noted[s, a])
+
+    def test_children_add_up(self):
+        """The counts of a context shorter than D are those of its children together."""
+        sample, D = drawn_sample(Random("children"), 3, 50), 3
+        counts = counts_by_place(sample, D)
+        for s in strings_up_to(3, D - 1):
+            self.assertEqual(total(sample, s, 3, D), sum(total(sample, child, 3, D) for child in children(s, 3)))
+            self.assertEqual(s in counts, any(child in counts for child in children(s, 3)))
 
     def test_oldest_first(self):
-        self.assertEqual(N((0, 0, 1, 1), (0, 1), 1), 1)
-        self.assertEqual(N((0, 0, 1, 1), (1, 0), 1), 0)
+        self.assertEqual(N((0, 0, 1, 1), (0, 1), 1, 2), 1)
+        self.assertEqual(N((0, 0, 1, 1), (1, 0), 1, 2), 0)
 
     def test_fit(self):
         self.assertEqual(fit((0, 4)), 0)
@@ -132,13 +160,19 @@ class Rows(unittest.TestCase):
     def test_eight_symbols(self):
         """A circle of eight acts against one act again and again: the first's tree has all eight children."""
         rows, score = estimate(sitting(8, 1, "01234567" * 8, "7" * 64))
-        expected = [(2, 0, 0) + (0,) * 7 + (64,)]
+        expected = [(2, 0, 0) + (0,) * 7 + (63,)]
         for symbol in range(8):
             follower = (symbol + 1) % 8
             count = 7 if symbol == 7 else 8
             expected.append((1, 1, symbol) + tuple(count if a == follower else 0 for a in range(8)))
         self.assertEqual(rows, expected)
         self.assertEqual(score, -9 * 7 * 6144)
+
+    def test_lengths_in_the_costs_are_whole(self):
+        """Three acts of each at depth 2, of which one counts: two own leaves cost 2·L(3) each."""
+        rows, score = estimate(sitting(3, 2, "012", "010"))
+        self.assertEqual([row[:6] for row in rows], [(1, 0, 0, 0, 0, 1), (2, 0, 0, 1, 0, 0)])
+        self.assertEqual(score, -2 * 2 * 1623)
 
     def test_unseen_children_have_rows_of_zeros(self):
         rows, _ = estimate(sitting(3, 1, "010101010101", "010101010101"))

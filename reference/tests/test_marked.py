@@ -1,9 +1,10 @@
-"""Document 01's marked examples and limits."""
+"""Document 01's marked examples, worked anew by request E3, and its limits."""
 
 import unittest
 from math import floor, log2
 
-from reference.answers import Done, Refused, Report
+from reference.answers import Both, Done, Refused, Report
+from reference.counts import N
 from reference.estimate import Sitting
 from reference.logarithm import L, follows_rule
 from reference.rows import estimate
@@ -38,6 +39,22 @@ class Examples(unittest.TestCase):
     def test_j1(self):
         self.assertEqual(estimate_of(1, "0101", "0101"), ([row(0, 1, 0, 0, 4), row(0, 1, 1, 2, 0)], -6144))
 
+    def test_j1_shows_the_empty_context(self):
+        """Its counts are (1,2) in each sample: place 1 does not count."""
+        store = self.fed_store("0101", "0101", reservation=3)
+        self.assertEqual([seen[()][:2] for seen in store.desks[0].seen], [(1, 2)] * 2)
+        self.assertEqual([N((0, 1, 0, 1), (), a, 1) for a in (0, 1)], [1, 2])
+        self.assertEqual([store.chart(0, 0, 0, a) for a in (0, 1)], [Both(1 / 3, 1 / 3, 0.0), Both(2 / 3, 2 / 3, 0.0)])
+
+    def fed_store(self, first, second, reservation):
+        store = Store()
+        store.make(16, 2432)
+        store.open(0, 2, 1, reservation)
+        for sample, symbols in enumerate((first, second)):
+            for symbol in symbols:
+                store.feed(0, sample, int(symbol))
+        return store
+
     def test_j1_needs_three_contexts(self):
         self.assertEqual(self.fed_0101(reservation=3), [Done()] * 4)
         self.assertEqual(self.fed_0101(reservation=2), [Done(), Done(), Refused(10), Refused(10)])
@@ -49,7 +66,7 @@ class Examples(unittest.TestCase):
         return [store.feed(0, 0, symbol) for symbol in (0, 1, 0, 1)]
 
     def test_j2(self):
-        rows = [row(2, 0, 0, 4, 0), row(1, 1, 0, 0, 2), row(1, 1, 1, 1, 0)]
+        rows = [row(2, 0, 0, 3, 0), row(1, 1, 0, 0, 2), row(1, 1, 1, 1, 0)]
         self.assertEqual(estimate_of(1, "0101", "0000"), (rows, -6144))
 
     def test_j3(self):
@@ -60,7 +77,7 @@ class Examples(unittest.TestCase):
         self.assertEqual(estimate_of(0, "0101", "0101"), ([row(0, 0, 0, 4, 4)], -19456))
 
     def test_j5(self):
-        self.assertEqual(estimate_of(1, "0", "0"), ([row(1, 0, 0, 1), row(2, 0, 0, 1)], 0))
+        self.assertEqual(estimate_of(1, "0", "0"), ([row(1, 0, 0), row(2, 0, 0)], 0))
 
 
 class Limits(unittest.TestCase):

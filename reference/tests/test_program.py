@@ -10,10 +10,19 @@ from reference.answers import Refused
 from reference.counts import counts_by_place
 from reference.inputs import de_bruijn, fixed_files
 from reference.program import output
-from reference.sitting_file import write
+from reference.sitting_file import read, samples_of, write
+from reference.store import Store
 
 EXAMPLE = bytes.fromhex("02 01 08 08 00 01 00 01 00 01 00 01 00 00 01 00 00 01 00 00")
 PRINTED = "2 1 8 8 3 -20176\n1 1 0 0 4\n2 1 0 3 2\n0 1 1 5 0\n"
+
+
+def refused_feed(file):
+    """The sample and the place of the feed that is refused, and the depth."""
+    shape = read(file)
+    answers = program.played(Store(), shape, samples_of(file, shape))
+    feed = next(number for number, answer in enumerate(answers, start=-1) if isinstance(answer, Refused))
+    return (0, feed, shape.D) if feed <= shape.n else (1, feed - shape.n, shape.D)
 
 
 class Program(unittest.TestCase):
@@ -41,6 +50,19 @@ class Program(unittest.TestCase):
         self.assertTrue(output(write(3, 5, many[:154], (0,))).startswith("3 5 154 1 "))
         self.assertEqual(output(write(3, 5, many[:155], (0,))), "refused 10\n")
         self.assertEqual(output(write(3, 5, many, ())), "refused 10\n")
+
+    def test_the_second_samples_first_place_that_counts(self):
+        """It adds five contexts at once to the first's 251, or to one more; the place before it adds none."""
+        many = de_bruijn(3, 5)
+        self.assertEqual([len(counts_by_place(many[:length], 5)) for length in (150, 151)], [251, 252])
+        self.assertTrue(output(write(4, 5, many[:150], (3,) * 6)).startswith("4 5 150 6 "))
+        self.assertTrue(output(write(4, 5, many[:151], (3,) * 5)).startswith("4 5 151 5 "))
+        self.assertEqual(output(write(4, 5, many[:151], (3,) * 6)), "refused 10\n")
+
+    def test_fixed_files_show_where_10_comes(self):
+        """In each sample, and where the second's first place that counts adds several contexts at once."""
+        feeds = {refused_feed(file) for file in fixed_files() if output(file) == "refused 10\n"}
+        self.assertTrue({(0, 155, 5), (1, 155, 5), (1, 15, 5), (1, 6, 5)} <= feeds, feeds)
 
     def test_longer_input_shows_a_fault(self):
         self.assertEqual(output(EXAMPLE + bytes(5000)), "refused 16\n")

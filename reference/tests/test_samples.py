@@ -105,6 +105,7 @@ class Damaged(unittest.TestCase):
         self.assertIn(f"\n```\n{report}```\n", self.words)
         rows = [row.split() for row in report.splitlines()[1:]]
         self.assertEqual([row[0] for row in rows], ["0", "0", "0"], "all three rows are shared")
-        before, left = ([total(sample, (LISTENS,), 3) for sample in samples] for samples in (self.whole, self.kept))
+        A, D = read(self.saved)[:2]
+        before, left = ([total(sample, (LISTENS,), A, D) for sample in samples] for samples in (self.whole, self.kept))
         said = f"{left[0]} of the learner's {before[0]} and {left[1]} of the reference's {before[1]} are left"
         self.assertIn(f"of the acts that came after listening, {said}", self.sentences)

@@ -4,10 +4,16 @@ import struct
 import unittest
 from pathlib import Path
 from random import Random
+from unittest.mock import patch
 
+from reference.answers import Done, Refused
 from reference.built import SCRIPTS, answers_of
+from reference.contexts import children
+from reference.estimate import FIRST, SECOND, SHARED, Recursion, Scale
+from reference.limits import DESKS, SAMPLES
 from reference.logarithm import L
 from reference.script import SCRIPT_BYTES, BadScript, Call, Player, call, parse, play
+from reference.store import Store
 from reference.walks import drawn_walk, every_length, spoilt_walk
 
 PLAYER = Path(__file__).resolve().parents[2] / "crates" / "player"
@@ -45,6 +51,14 @@ class Language(unittest.TestCase):
         )
 
 
+def choices_at_root(sitting):
+    """The best scores of a shared leaf, of two separate trees and of a split of both at the empty context."""
+    scale = Scale(sitting)
+    weighed = Recursion(scale)
+    separate = sum(weighed.own(kind, ())[0] for kind in (FIRST, SECOND))
+    return [scale.worth(SHARED, ()), separate, sum(weighed.joint(child)[0] for child in children((), sitting.A))]
+
+
 class Kept(unittest.TestCase):
     def test_answers(self):
         scripts = sorted(SCRIPTS.glob("*.script"))
@@ -64,6 +78,25 @@ class Kept(unittest.TestCase):
         """Both samples of 2,048 symbols, and their shared root."""
         self.assertIn(f"report 1 {-L(4096)}\n0 0 0 4096 ", (SCRIPTS / "limits.answers").read_text())
 
+    def test_the_ties_that_splits_speaks_of(self):
+        """Which choices at the empty context score best: 0 a shared leaf, 1 separate trees, 2 a split of both."""
+        player, best = Player(), {}
+        for line in (SCRIPTS / "splits.script").read_text().splitlines():
+            words = line if line[0].isalpha() else words
+            for step in parse(line):
+                player.play(step)
+                if step.name == "report":
+                    scores = choices_at_root(player.store.desks[step.numbers[0]].value())
+                    best[words] = [choice for choice, score in enumerate(scores) if score == max(scores)]
+        tied = {words: choices for words, choices in best.items() if "score" in words}
+        self.assertEqual(list(tied.values()), [[0, 1], [1, 2], [0, 2], [1, 2]], tied)
+
+    def test_places_that_do_not_count_are_there(self):
+        """The first place that counts is refused with 10 at an empty sitting, and a chart finds nothing before it."""
+        refusals, desks = ((SCRIPTS / f"{name}.answers").read_text() for name in ("refusals", "desks"))
+        self.assertIn("done\nfed 2 refused 10\nchart neither\nchart neither\n", refusals)
+        self.assertIn("done\nchart neither\ndone\nchart neither\nchart neither\ndone\nchart second ", desks)
+
     def test_every_refusal_is_there(self):
         text = "".join(path.read_text() for path in SCRIPTS.glob("*.answers"))
         for number in [*range(1, 13), 17, 18]:
@@ -82,6 +115,25 @@ class Walks(unittest.TestCase):
         for seed in range(6):
             walk = (drawn_walk if seed % 2 else spoilt_walk)(Random(seed))
             self.assertEqual(play(walk.text()), [lines for _, lines in walk.steps])
+
+    def test_walks_come_to_the_first_place_that_counts(self):
+        """Its feed is accepted and refused with 10, with nothing held before and with something held."""
+        come = set()
+
+        def feed(store, desk, sample, symbol):
+            sitting = store.desks[desk] if desk in DESKS else None
+            first = sitting and sample in SAMPLES and len(sitting.samples[sample]) == sitting.D
+            held = bool(first and sitting.held)
+            answer = fed(store, desk, sample, symbol)
+            if first and sitting.D and answer in (Done(), Refused(10)):
+                come.add((held, answer))
+            return answer
+
+        fed = Store.feed
+        with patch.object(Store, "feed", feed):
+            for seed in range(12):
+                drawn_walk(Random(seed))
+        self.assertEqual(come, {(held, answer) for held in (False, True) for answer in (Done(), Refused(10))})
 
     def test_answers_are_parted_by_call(self):
         walk = drawn_walk(Random(7), unmade=True)

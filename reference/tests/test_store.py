@@ -4,6 +4,7 @@ import unittest
 from fractions import Fraction
 
 from reference.answers import Both, Done, First, Neither, Refused, Report, Room, Second
+from reference.contexts import code, strings_up_to
 from reference.store import Store
 
 
@@ -68,12 +69,42 @@ class Refusals(unittest.TestCase):
         self.assertEqual(feed_all(store, 1, "000"), [Done()] * 3)
 
     def test_10_may_add_several_at_once(self):
-        """After 000 the fourth symbol follows one new context; after 0001 the next follows four."""
+        """Place 4 adds 000, 00, 0 and the empty context; place 5 adds 001, 01 and 1."""
         store = store_with(D=3, reservation=7)
         self.assertEqual(feed_all(store, 0, "00010"), [Done()] * 5)
         self.assertEqual(len(store.desks[0].held), 7)
         tight = store_with(D=3, reservation=6)
         self.assertEqual(feed_all(tight, 0, "00010")[4], Refused(10))
+
+    def test_10_at_the_first_place_that_counts(self):
+        """Place D+1 adds D+1 contexts at once, whichever sample comes to it first; the places before it add none."""
+        for D in range(7):
+            symbols = "0101010"[: D + 1]
+            store, tight = store_with(D=D, reservation=D + 1), store_with(D=D, reservation=max(D, 1))
+            for sample in (1, 0):
+                self.assertEqual(feed_all(store, sample, symbols), [Done()] * (D + 1))
+                self.assertEqual(len(store.desks[0].held), D + 1)
+                self.assertEqual(feed_all(tight, sample, symbols), [Done()] * D + [Refused(10) if D else Done()])
+                self.assertEqual(len(tight.desks[0].samples[sample]), max(D, 1))
+            self.assertEqual(tight.chart(0, 0, 0, 0), Neither() if D else Both(1.0, 1.0, 0.0))
+
+    def test_10_looks_at_the_contexts_of_both_samples(self):
+        """The second's place 4 adds three: the empty context is held."""
+        for reservation, answer in [(7, Done()), (6, Refused(10))]:
+            store = store_with(D=3, reservation=reservation)
+            feed_all(store, 0, "0000")
+            self.assertEqual(feed_all(store, 1, "1110"), [Done()] * 3 + [answer])
+
+    def test_a_sample_no_longer_than_the_depth_holds_nothing(self):
+        store = store_with(D=3, reservation=1)
+        feed_all(store, 0, "010")
+        feed_all(store, 1, "01")
+        self.assertEqual(store.desks[0].held, set())
+        asked = [(s, store.chart(0, len(s), code(s), 1)) for s in strings_up_to(2, 3)]
+        self.assertEqual(asked, [(s, Neither()) for s in strings_up_to(2, 3)])
+        sheet = [7] * 22
+        self.assertEqual(store.report(0, sheet, 0).rows, 1)
+        self.assertEqual(sheet, [0] * 11 + [7] * 11)
 
     def test_11_goes_before_12(self):
         store = store_with()
@@ -132,8 +163,17 @@ class Chart(unittest.TestCase):
         self.assertEqual(store.chart(0, 1, 1, 0), First(1.0))
         self.assertEqual(store.chart(0, 1, 2, 1), Second(0.5))
         self.assertEqual(store.chart(0, 1, 0, 1), Both(0.5, 0.0, 0.5))
-        self.assertEqual(store.chart(0, 0, 0, 0), Both(0.75, 0.25, 0.5))
+        self.assertEqual(store.chart(0, 0, 0, 0), Both(2 / 3, 0.0, 2 / 3))
         self.assertEqual(store.desks[0].share(1, (1,), 0), None)
+
+    def test_places_up_to_the_depth_have_no_share(self):
+        """The third symbol is the first that counts at depth 2; the two before it are its contexts alone."""
+        store = store_with(D=2)
+        feed_all(store, 0, "00")
+        self.assertEqual(store.chart(0, 0, 0, 0), Neither())
+        feed_all(store, 0, "1")
+        asked = [store.chart(0, *context, 1) for context in [(0, 0), (1, 0), (2, 0), (1, 1)]]
+        self.assertEqual(asked, [First(1.0)] * 3 + [Neither()])
 
     def test_shares_are_rounded_once(self):
         store = store_with(D=0, reservation=1)

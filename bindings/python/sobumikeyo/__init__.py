@@ -4,6 +4,9 @@ A sitting has two samples. It is fed at a desk of a Store, and up to eight desks
 Report splits what was seen into contexts (what came just before) that both samples treat alike and
 contexts that are one sample's own.
 
+Each sample counts its symbols from place depth + 1 on, for contexts of every length, so that deep and
+shallow trees are scored over the same acts. The symbols before that place are only what came just before.
+
 >>> from sobumikeyo import Kind, Sample, Store
 >>> store = Store(64)
 >>> store.open(0, alphabet=2, depth=1, reservation=64)

@@ -4,7 +4,8 @@ from typing import NamedTuple, Optional
 
 
 class Chart(NamedTuple):
-    """How often, of the times that a sample saw a context, a symbol came next: a share from 0 to 1.
+    """How often, of the times that a sample saw a context, a symbol came next, at places from depth + 1 on: a
+    share from 0 to 1.
 
     None stands for a sample that did not see the context. The gap, first less second, is there where
     both did.

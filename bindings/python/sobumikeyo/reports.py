@@ -50,8 +50,8 @@ class Kind(IntEnum):
 
 
 class Row(NamedTuple):
-    """One context of a report. The counts say how often each symbol came next, 0 for symbols outside
-    the alphabet; a shared row has the counts of both samples added."""
+    """One context of a report. The counts say how often each symbol came next, at places from depth + 1 on,
+    0 for symbols outside the alphabet; a shared row has the counts of both samples added."""
 
     kind: Kind
     context: Context

@@ -98,7 +98,17 @@ class Store:
         refuse_unless_zero(self._call("open", *opening))
 
     def feed(self, desk, sample, symbol):
-        """One more symbol of a sample."""
+        """One more symbol of a sample. Where `depth` symbols are before it, it is counted in the depth + 1
+        contexts that they end in; where fewer are, it is only kept. So a sitting holds no context until a
+        sample has more than `depth` symbols: that feed adds depth + 1 at once, a later one at most `depth`.
+
+        >>> store = Store(2)
+        >>> store.open(0, alphabet=2, depth=2, reservation=2)
+        >>> store.feed_all(0, Sample.FIRST, [0, 1])
+        >>> store.feed(0, Sample.FIRST, 0)
+        Traceback (most recent call last):
+        sobumikeyo.refusals.Refusal: refused 10: The sitting would have more contexts than it reserved. Reserve more at opening, or take a smaller depth, and feed both samples again.
+        """
         refuse_unless_zero(self._call("feed", *named(desk=desk, sample=sample, symbol=symbol)))
 
     def feed_all(self, desk, sample, symbols):
@@ -135,7 +145,7 @@ class Store:
         return rows.value, score.value
 
     def chart(self, desk, context, symbol):
-        """How often, of the times that a sample saw the context, the symbol came next.
+        """How often, of the times that a sample saw the context, the symbol came next: places from depth + 1 on.
 
         >>> from sobumikeyo import Context
         >>> store = Store(8)

@@ -76,7 +76,8 @@ class Arguments(unittest.TestCase):
     def test_symbols_of_many_kinds(self):
         runs = [[0, 1], (0, 1), b"\0\1", bytearray([0, 1]), memoryview(b"\0\1"), array("I", [0, 1]), iter([0, 1]), range(2)]
         for symbols in runs:
-            store = opened()
+            store = Store(1)
+            store.open(0, alphabet=2, depth=0, reservation=1)
             store.feed_all(0, Sample.FIRST, symbols)
             self.assertEqual(store.chart(0, EMPTY, 1).first, 0.5)
 

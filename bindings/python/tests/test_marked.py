@@ -1,18 +1,22 @@
-"""Document 01's marked examples."""
+"""Document 01's marked examples, J2 and J5 as request E3 works them anew: places are counted from D+1 on."""
 
 import unittest
 
-from sobumikeyo import Context, Kind, Sample, Stopped, Store
+from sobumikeyo import Chart, Context, Kind, Sample, Stopped, Store
 
 SHARED, FIRST, SECOND = Kind
 
 
-def report(depth, first, second):
+def sitting(depth, first, second):
     store = Store(3)
     store.open(0, 2, depth, 3)
     store.feed_all(0, Sample.FIRST, first)
     store.feed_all(0, Sample.SECOND, second)
-    return store.report(0)
+    return store
+
+
+def report(depth, first, second):
+    return sitting(depth, first, second).report(0)
 
 
 class Marked(unittest.TestCase):
@@ -27,6 +31,11 @@ class Marked(unittest.TestCase):
         self.check(told, [(SHARED, [0], (0, 4)), (SHARED, [1], (2, 0))], -6144)
         self.assertEqual(told.first_tree(), told.second_tree())
 
+    def test_j1_empty_context(self):
+        store = sitting(1, [0, 1, 0, 1], [0, 1, 0, 1])
+        self.assertEqual(store.chart(0, Context.of([]), 0), Chart(1 / 3, 1 / 3, 0.0))
+        self.assertEqual(store.chart(0, Context.of([]), 1), Chart(2 / 3, 2 / 3, 0.0))
+
     def test_j1_needs_three_contexts(self):
         store = Store(2)
         store.open(0, 2, 1, 2)
@@ -36,7 +45,7 @@ class Marked(unittest.TestCase):
 
     def test_j2_all_their_own(self):
         told = report(1, [0, 1, 0, 1], [0, 0, 0, 0])
-        self.check(told, [(SECOND, [], (4, 0)), (FIRST, [0], (0, 2)), (FIRST, [1], (1, 0))], -6144)
+        self.check(told, [(SECOND, [], (3, 0)), (FIRST, [0], (0, 2)), (FIRST, [1], (1, 0))], -6144)
         self.assertEqual((len(told.first_tree()), len(told.second_tree())), (2, 1))
 
     def test_j3_one_habit_shared(self):
@@ -49,7 +58,7 @@ class Marked(unittest.TestCase):
         self.check(report(0, [0, 1, 0, 1], [0, 1, 0, 1]), [(SHARED, [], (4, 4))], -19456)
 
     def test_j5_equal_samples_need_not_be_shared(self):
-        self.check(report(1, [0], [0]), [(FIRST, [], (1, 0)), (SECOND, [], (1, 0))], 0)
+        self.check(report(1, [0], [0]), [(FIRST, [], (0, 0)), (SECOND, [], (0, 0))], 0)
 
 
 if __name__ == "__main__":

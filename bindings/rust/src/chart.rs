@@ -1,6 +1,6 @@
 //! What the chart question answers.
 
-/// How often, of the times that a sample saw a context, a symbol came next: for the samples that saw it.
+/// How often, of the times that a sample saw a context, a symbol came next: for the samples that saw it, at places from depth + 1 on.
 #[derive(Clone, Copy, Debug, PartialEq)]
 pub enum Chart {
     /// Neither sample saw the context.

@@ -62,7 +62,8 @@ pub enum Kind {
 pub struct Row {
     pub kind: Kind,
     pub context: Context,
-    /// How often each symbol came next; 0 for symbols outside the alphabet. A shared row has the counts of both samples added.
+    /// How often each symbol came next, at places from depth + 1 on; 0 for symbols outside the alphabet. A shared row has the counts of both
+    /// samples added.
     pub counts: [u32; COUNTS],
 }
 

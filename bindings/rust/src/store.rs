@@ -113,7 +113,19 @@ impl Store {
         Refusal::unless_zero(unsafe { calls::sobumikeyo_open(numbers, len, desk.0, alphabet, depth, reservation) })
     }
 
-    /// One more symbol of a sample.
+    /// One more symbol of a sample. Where `depth` symbols are before it, it is counted in the depth + 1 contexts that they end in; where fewer are,
+    /// it is only kept. So a sitting holds no context until a sample has more than `depth` symbols: that feed adds depth + 1 at once, a later
+    /// one at most `depth`.
+    ///
+    /// ```
+    /// use sobumikeyo::{Desk, Sample, Store};
+    ///
+    /// let mut store = Store::new(2)?;
+    /// store.open(Desk(0), 2, 2, 2)?;
+    /// store.feed_all(Desk(0), Sample::FIRST, &[0, 1])?;
+    /// assert_eq!(store.feed(Desk(0), Sample::FIRST, 0).unwrap_err().number(), 10);
+    /// # Ok::<(), sobumikeyo::Refusal>(())
+    /// ```
     pub fn feed(&mut self, desk: Desk, sample: Sample, symbol: u32) -> Result<(), Refusal> {
         let (numbers, len) = (self.numbers.as_mut_ptr(), self.numbers.len());
         Refusal::unless_zero(unsafe { calls::sobumikeyo_feed(numbers, len, desk.0, sample.0, symbol) })
@@ -159,7 +171,7 @@ impl Store {
         Ok((rows, score))
     }
 
-    /// How often, of the times that a sample saw the context, the symbol came next.
+    /// How often, of the times that a sample saw the context, the symbol came next: places from depth + 1 on.
     ///
     /// ```
     /// use sobumikeyo::{Chart, Context, Desk, Sample, Store};

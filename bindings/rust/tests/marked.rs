@@ -1,6 +1,6 @@
-//! Document 01's marked examples.
+//! Document 01's marked examples, J2 and J5 as request E3 works them anew: places are counted from D+1 on.
 use sobumikeyo::Kind::{First, Second, Shared};
-use sobumikeyo::{Desk, Kind, Report, Sample, Store};
+use sobumikeyo::{Chart, Context, Desk, Kind, Point, Report, Sample, Store};
 
 const DESK: Desk = Desk(0);
 
@@ -40,6 +40,15 @@ fn j1_two_shared_contexts() {
 }
 
 #[test]
+fn j1_empty_context() {
+    let store = sitting(1, 3, &[0, 1, 0, 1], &[0, 1, 0, 1]);
+    let (third, two_thirds) = (1.0 / 3.0, 2.0 / 3.0);
+    let empty = Context::of(&[]).unwrap();
+    assert_eq!(store.chart(DESK, empty, 0), Ok(Chart::Both(Point { first: third, second: third, gap: 0.0 })));
+    assert_eq!(store.chart(DESK, empty, 1), Ok(Chart::Both(Point { first: two_thirds, second: two_thirds, gap: 0.0 })));
+}
+
+#[test]
 fn j1_needs_three_contexts() {
     let mut store = Store::new(2).unwrap();
     store.open(DESK, 2, 1, 2).unwrap();
@@ -50,7 +59,7 @@ fn j1_needs_three_contexts() {
 #[test]
 fn j2_all_their_own() {
     let told = report(1, &[0, 1, 0, 1], &[0, 0, 0, 0]);
-    assert_eq!(rows(&told), [(Second, vec![], [4, 0]), (First, vec![0], [0, 2]), (First, vec![1], [1, 0])]);
+    assert_eq!(rows(&told), [(Second, vec![], [3, 0]), (First, vec![0], [0, 2]), (First, vec![1], [1, 0])]);
     assert_eq!(told.score, -6144);
     let trees = [told.first_tree().count(), told.second_tree().count()];
     assert_eq!(trees, [2, 1]);
@@ -76,6 +85,6 @@ fn j4_no_memory() {
 #[test]
 fn j5_equal_samples_need_not_be_shared() {
     let told = report(1, &[0], &[0]);
-    assert_eq!(rows(&told), [(First, vec![], [1, 0]), (Second, vec![], [1, 0])]);
+    assert_eq!(rows(&told), [(First, vec![], [0, 0]), (Second, vec![], [0, 0])]);
     assert_eq!(told.score, 0);
 }

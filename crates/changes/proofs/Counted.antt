@@ -16,9 +16,9 @@ use Rattle.contexts.specs.Sitting.{Sample, first, second, sameSample}
 use Rattle.contexts.proofs.KeyOrder.{Within}
 use Rattle.records.specs.Records.{lookup}
 use Rattle.records.specs.Held.{countAt, Rising, Wide}
-use Rattle.records.specs.Fed.{fed}
-use Rattle.recording.proofs.Feeding.{count-fed}
 use Rattle.store.specs.Layout.{totalOf}
+use Rattle.changes.specs.FedStore.{fedIf}
+use Rattle.changes.proofs.Whether.{count-if}
 
 pub same-sym : (i j : Sample) → sameSample i j ≡ sameSample j i
 same-sym first first = refl
@@ -26,24 +26,28 @@ same-sym first second = refl
 same-sym second first = refl
 same-sym second second = refl
 
-regroup : (p q b e : Bool) → (p && (q && (b && e))) ≡ ((p && (q && b)) && e)
+pub regroup : (q k b e : Bool) → (q && (k && (b && e))) ≡ ((q && (k && b)) && e)
 regroup true true b e = refl
 regroup true false b e = refl
-regroup false q b e = refl
+regroup false k b e = refl
 
-module _ (d : ℕ) (i : Sample) (a : ℕ) (r : List ℕ) (cr : Within r) (l : a < mostSymbols) (rs : List (List ℕ)) (w : Wide rs) (up : Rising rs) where
-  -- one more where it is the desk and the sample fed, and the context begins the recent symbols
+regroup-all : (p q k b e : Bool) → (p && (q && (k && (b && e)))) ≡ ((p && (q && (k && b))) && e)
+regroup-all true q k b e = regroup q k b e
+regroup-all false q k b e = refl
+
+module _ (k : Bool) (d : ℕ) (i : Sample) (a : ℕ) (r : List ℕ) (cr : Within r) (l : a < mostSymbols) (rs : List (List ℕ)) (w : Wide rs) (up : Rising rs) where
+  -- one more where the place is counted, it is the desk and the sample fed, and the context begins the recent symbols
   pub total-fed : (e : ℕ) (c : List ℕ) → Within c → (j : Sample)
-      → totalOf j (lookup (keyOf e c) (fed d i a r rs)) ≡ totalOf j (lookup (keyOf e c) rs) + one (eqb d e && (sameSample i j && begins c r))
+      → totalOf j (lookup (keyOf e c) (fedIf k d i a r rs)) ≡ totalOf j (lookup (keyOf e c) rs) + one (eqb d e && (sameSample i j && (k && begins c r)))
   total-fed e c x j =
-      sum-cong mostSymbols {g = λ b. countAt (keyOf e c) j b rs + one ((eqb d e && (sameSample i j && begins c r)) && eqb b a)}
-      (λ b m. count-fed d r cr e c x i a j b rs l w up
-      ∙ ap (λ (t : Bool). countAt (keyOf e c) j b rs + one t) (regroup (eqb d e) (sameSample i j) (begins c r) (eqb a b) ∙ ap (λ (t : Bool). (eqb d e && (sameSample i j && begins c r)) && t) (eqb-sym a b)))
-      ∙ sum-pick mostSymbols a (λ b. countAt (keyOf e c) j b rs) (eqb d e && (sameSample i j && begins c r)) l
+      sum-cong mostSymbols {g = λ b. countAt (keyOf e c) j b rs + one ((eqb d e && (sameSample i j && (k && begins c r))) && eqb b a)}
+      (λ b m. count-if d i a r cr e c x k j b rs l w up
+      ∙ ap (λ (t : Bool). countAt (keyOf e c) j b rs + one t) (regroup-all (eqb d e) (sameSample i j) k (begins c r) (eqb a b) ∙ ap (λ (t : Bool). (eqb d e && (sameSample i j && (k && begins c r))) && t) (eqb-sym a b)))
+      ∙ sum-pick mostSymbols a (λ b. countAt (keyOf e c) j b rs) (eqb d e && (sameSample i j && (k && begins c r))) l
 
 -- ---- what begins the recent symbols
 
-pub begins-trans : (u c r : List ℕ) → T (begins u c) → T (begins c r) → T (begins u r)
+begins-trans : (u c r : List ℕ) → T (begins u c) → T (begins c r) → T (begins u r)
 begins-trans [] c r h g = tt
 begins-trans (x ∷ u) [] r h g = absurd h
 begins-trans (x ∷ u) (y ∷ c) [] h g = absurd g
@@ -51,6 +55,10 @@ begins-trans (x ∷ u) (y ∷ c) (z ∷ r) h g =
     let e = eqb→eq x y (left (eqb x y) (begins u c) h) in
     let f = eqb→eq y z (left (eqb y z) (begins c r) g) in
     both (eqb x z) (begins u r) (eq→eqb x z (e ∙ f)) (begins-trans u c r (right (eqb x y) (begins u c) h) (right (eqb y z) (begins c r) g))
+
+pub counted-trans : (k : Bool) (u c r : List ℕ) → T (begins u c) → T (k && begins c r) → T (k && begins u r)
+counted-trans true u c r h g = begins-trans u c r h g
+counted-trans false u c r h g = g
 
 pub one-part : (p q b : Bool) → one (p && (q && b)) ≤ one (p && q)
 one-part true true true = omega arith

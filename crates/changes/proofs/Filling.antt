@@ -16,10 +16,8 @@ use Rattle.contexts.specs.Sitting.{Sample}
 use Rattle.contexts.proofs.KeyOrder.{Within}
 use Rattle.records.specs.Records.{key}
 use Rattle.records.specs.Held.{held, keep, ofDesk}
-use Rattle.records.specs.Fed.{missing}
 use Rattle.records.proofs.Keeping.{held-keep}
 use Rattle.records.proofs.Finding.{place-held}
-use Rattle.recording.proofs.Growing.{length-fed, desk-length-fed, other-fed}
 use Rattle.recording.proofs.Desks.{length-desks}
 use Rattle.store.specs.Layout.{room, used, isOpen, reserveAt, recordsIn}
 use Rattle.store.specs.Sound.{heldBy, reservedAt}
@@ -27,9 +25,10 @@ use Rattle.store.specs.Plain.{Open}
 use Rattle.store.proofs.Parts.{records-length}
 use Rattle.store.proofs.Fitting.{open?}
 use Rattle.store.proofs.Standing.{sound-stands}
-use Rattle.changes.specs.FedStore.{Acceptable, recentAt, recordsFed}
+use Rattle.changes.specs.FedStore.{Acceptable, recentAt, isCounted, missingIf, recordsFed}
 use Rattle.changes.proofs.Recent.{recent-within}
 use Rattle.changes.proofs.Before.{rising}
+use Rattle.changes.proofs.Whether.{length-if, desk-length-if, other-if}
 use Rattle.changes.proofs.Owning.{Owned, owned-fed, owned-desk}
 use Rattle.changes.proofs.Header.{same?}
 
@@ -43,8 +42,8 @@ module _ (s : List ℕ) (d : ℕ) (i : Sample) (a : ℕ) (p : Acceptable s d i a
   pub held-within : (e : ℕ) → Open s e → heldBy e (recordsFed s d i a) ≤ reserveAt s e
   held-within e o =
       elim (same? e d) [
-        | yes q ↦ rw (q, desk-length-fed d i a (recentAt s d i) cr (recordsIn s) (rising s (p .sound))) (p .reserved)
-        | no q ↦ rw (other-fed d i a (recentAt s d i) cr e (recordsIn s) (λ z. q (sym z))) (sound-stands s (p .sound) .reserved-held e o)
+        | yes q ↦ rw (q, desk-length-if d i a (recentAt s d i) cr (isCounted s d i) (recordsIn s) (rising s (p .sound))) (p .reserved)
+        | no q ↦ rw (other-if d i a (recentAt s d i) cr (isCounted s d i) e (recordsIn s) (λ z. q (sym z))) (sound-stands s (p .sound) .reserved-held e o)
       ]
 
   -- a desk's records are within its reservation, which is none where it is not open
@@ -74,6 +73,6 @@ module _ (s : List ℕ) (d : ℕ) (i : Sample) (a : ℕ) (p : Acceptable s d i a
       let each : sum desks (λ e. length (keep (ofDesk e) rs)) ≤ sum desks (reservedAt s) = sum-mono desks desk-within in
       omega (arith, sound-stands s (p .sound) .reservations)
 
-  -- THEOREM. The records in use and those that are missing are at most K
-  pub room-missing : used s + missing d (recentAt s d i) (recordsIn s) ≤ room s
-  room-missing = omega (arith, length-fed d i a (recentAt s d i) cr (recordsIn s) (rising s (p .sound)), records-length s, room-enough)
+  -- THEOREM. The records in use and those that it adds are at most K
+  pub room-missing : used s + missingIf (isCounted s d i) d (recentAt s d i) (recordsIn s) ≤ room s
+  room-missing = omega (arith, length-if d i a (recentAt s d i) cr (isCounted s d i) (recordsIn s) (rising s (p .sound)), records-length s, room-enough)

@@ -7,7 +7,6 @@ use borrow.Author.Tests.{lt-ltb, le-ltb, le-leb, lt-leb}
 use lib.Dec.{ltb}
 use Rattle.numbers.specs.Limits.{longest, desks}
 use Rattle.contexts.specs.Sitting.{sampleOf}
-use Rattle.records.specs.Fed.{missing}
 use Rattle.replay.specs.Table.{Outcome, refused, answered, verdictOf}
 use Rattle.replay.specs.Machine.{Call, asking, atDesk, verdict, tableOf, tableAt, askingTable, ownLines, answerAt}
 use Rattle.replay.specs.Machine as machine
@@ -19,7 +18,7 @@ use Rattle.store.proofs.Fitting.{desk-opened, desk-closed}
 use Rattle.rules.specs.Feed as rule
 use Rattle.rules.specs.Rules.{Answer, feed, done, linesOf, rules}
 use Rattle.rules.specs.Rules as rules
-use Rattle.changes.specs.FedStore.{recentAt}
+use Rattle.changes.specs.FedStore.{recentAt, isCounted, missingIf}
 use Rattle.changes.proofs.Reserving.{held-fed-contexts}
 
 module _ (s : List ℕ) (d k a : ℕ) where
@@ -58,7 +57,7 @@ module _ (s : List ℕ) (d k a : ℕ) where
 
         module _ (short : sizeAt s d (sampleOf k) < longest) (h : soundb s ≡ true) where
           abbrev then : ℕ
-          then = heldBy d (recordsIn s) + missing d (recentAt s d (sampleOf k)) (recordsIn s)
+          then = heldBy d (recordsIn s) + missingIf (isCounted s d (sampleOf k)) d (recentAt s d (sampleOf k)) (recordsIn s)
 
           at-last : said ≡ cond (ltb (reserveAt s d) then) (refused 10) (answered done)
           at-last =

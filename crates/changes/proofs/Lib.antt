@@ -9,6 +9,7 @@ pub mod Laying
 pub mod Limits
 pub mod Recent
 pub mod Before
+pub mod Whether
 pub mod Counted
 pub mod Owning
 pub mod Header

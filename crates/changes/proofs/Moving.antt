@@ -5,7 +5,7 @@ use mathlib.Core.Bool.{Bool, true, false, cond, _&&_}
 use mathlib.Core.List.{List, _∷_}
 use Prim.Native.Nat.{ℕ, min, _+_, _≤_, _<_}
 use native.Mathlib.Omega.{arith}
-use borrow.Author.Tests.{eq-eqb, ne-eqb, le-leb}
+use borrow.Author.Tests.{eq-eqb, ne-eqb}
 use lib.Dec.{eqb}
 use lib.ListN.{length, take}
 use Rattle.numbers.specs.Limits.{desks}
@@ -18,7 +18,6 @@ use Rattle.contexts.proofs.Strings.{begins→take}
 use Rattle.contexts.proofs.Followed.{context-take}
 use Rattle.records.specs.Held.{keep, ofDesk}
 use Rattle.records.specs.Records.{countOf}
-use Rattle.recording.proofs.Growing.{other-fed}
 use Rattle.replay.specs.Room.{Desk, opened, Room}
 use Rattle.replay.specs.Machine.{asking, atDesk, put, moved, shift}
 use Rattle.store.specs.Layout.{symbolsAt, depthAt, sizeAt, slotsAt, recordsIn}
@@ -30,8 +29,9 @@ use Rattle.store.proofs.Local.{desk-stays}
 use Rattle.store.proofs.Passing.{header-long}
 use Rattle.rules.specs.Feed as rule
 use Rattle.rules.specs.Rules.{feed, nextOf, rules}
-use Rattle.changes.specs.FedStore.{FedStore, Acceptable, recentAt, shifted}
+use Rattle.changes.specs.FedStore.{FedStore, Acceptable, recentAt, isCounted, shifted}
 use Rattle.changes.proofs.Recent.{recent-context, recent-within, within, recent-shifted}
+use Rattle.changes.proofs.Whether.{other-if}
 use Rattle.changes.proofs.Counted.{same-sym}
 use Rattle.changes.proofs.Header.{same?, open-after, context-same}
 use Rattle.changes.proofs.Tallied.{count-after}
@@ -71,18 +71,19 @@ module _ (s t : List ℕ) (d : ℕ) (i : Sample) (a : ℕ) (f : FedStore s t d i
   count-next : (j : Sample) (c : List ℕ) (b : ℕ) → progressAt t d .count j c b ≡ next .count j c b
   unfolding rule.afterFeed
   count-next j c b =
-      rw (context-same s t d i a f d (p .at-open .desk) c, le-leb 0 (sizeAt s d i) (omega arith)) (go (T? (isContext (symbolsAt s d) (depthAt s d) c)))
+      rw (context-same s t d i a f d (p .at-open .desk) c) (go (T? (isContext (symbolsAt s d) (depthAt s d) c)))
     where
-      none : (q : Bool) → one (q && (true && (false && eqb a b))) ≡ 0
-      none true = refl
-      none false = refl
+      none : (q k : Bool) → one (q && (k && (false && eqb a b))) ≡ 0
+      none true true = refl
+      none true false = refl
+      none false k = refl
 
       go : Dec (ContextAt s d c) → cond (isContext (symbolsAt s d) (depthAt s d) c) (countOf j (recordFor t d c) b) 0
-          ≡ cond (isContext (symbolsAt s d) (depthAt s d) c) (countOf j (recordFor s d c) b) 0 + one (sameSample j i && (true && (begins c (recentAt s d i) && eqb a b)))
+          ≡ cond (isContext (symbolsAt s d) (depthAt s d) c) (countOf j (recordFor s d c) b) 0 + one (sameSample j i && (isCounted s d i && (begins c (recentAt s d i) && eqb a b)))
       go (yes x) =
           let g = count-after s t d i a f p d c (within s (p .sound) d (p .at-open) c x) j b in
           rw (is-true (isContext (symbolsAt s d) (depthAt s d) c) x, g, eq-eqb d d refl, same-sym i j)
-      go (no n) = rw (is-false (isContext (symbolsAt s d) (depthAt s d) c) n, not-begun c n) (let z = none (sameSample j i) in omega arith)
+      go (no n) = rw (is-false (isContext (symbolsAt s d) (depthAt s d) c) n, not-begun c n) (let z = none (sameSample j i) (isCounted s d i) in omega arith)
 
   progress-next : progressAt t d ≡ next
   progress-next =
@@ -99,7 +100,7 @@ module _ (s t : List ℕ) (d : ℕ) (i : Sample) (a : ℕ) (f : FedStore s t d i
         long-before = header-long s (p .sound);
         long-after = omega (arith, header-long s (p .sound), f .length-same);
         fields = λ n m. sym (f .others-same e n l q m);
-        kept = sym (other-fed d i a (recentAt s d i) (recent-within s (p .sound) d (p .at-open) i) e (recordsIn s) (λ z. q (sym z)))
+        kept = sym (other-if d i a (recentAt s d i) (recent-within s (p .sound) d (p .at-open) i) (isCounted s d i) e (recordsIn s) (λ z. q (sym z)))
             ∙ ap (keep (ofDesk e)) (sym (f .records-fed));
       }))
 

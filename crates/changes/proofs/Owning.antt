@@ -12,14 +12,15 @@ use Rattle.contexts.proofs.KeyOrder.{deskOf-key}
 use Rattle.contexts.proofs.Followed.{context-take}
 use Rattle.records.specs.Held.{held}
 use Rattle.records.proofs.Finding.{held-place}
-use Rattle.recording.proofs.Growing.{before, followed, origin}
+use Rattle.recording.proofs.Growing.{before, followed}
 use Rattle.store.specs.Layout.{symbolsAt, depthAt, recordsIn}
 use Rattle.store.specs.Sound.{soundb}
 use Rattle.store.specs.Plain.{Open, ContextAt}
 use Rattle.store.proofs.Parts.{records-length}
 use Rattle.store.proofs.Standing.{sound-stands}
-use Rattle.changes.specs.FedStore.{recentAt, recordsFed}
+use Rattle.changes.specs.FedStore.{recentAt, isCounted, recordsFed}
 use Rattle.changes.proofs.Recent.{recent-context, within}
+use Rattle.changes.proofs.Whether.{origin-if}
 
 pub record Owned (s : List ℕ) (k : ℕ) : Type 0 where
   pub desk : ℕ
@@ -39,7 +40,7 @@ module _ (s : List ℕ) (h : soundb s ≡ true) where
   owned-desk k w = ap deskOf (w .under-key) ∙ deskOf-key (w .desk) (w .context) (within s h (w .desk) (w .at-open) (w .context) (w .is-context))
 
   pub owned-fed : (d : ℕ) → Open s d → (i : Sample) (a k : ℕ) → T (held k (recordsFed s d i a)) → Owned s k
-  owned-fed d o i a k t = elim (origin d i a (recentAt s d i) k (recordsIn s) t) [
+  owned-fed d o i a k t = elim (origin-if d i a (recentAt s d i) (isCounted s d i) k (recordsIn s) t) [
     | before b ↦ owned k b
     | followed l m e ↦
         let x : ContextAt s d (take l (recentAt s d i)) = context-take (symbolsAt s d) (depthAt s d) l (recentAt s d i) (recent-context s h d o i) in

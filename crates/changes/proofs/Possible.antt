@@ -8,7 +8,6 @@ use native.Mathlib.Omega.{arith}
 use native.Mathlib.Decide.{decLe}
 use Rattle.numbers.specs.Limits.{longest, desks}
 use Rattle.contexts.specs.Sitting.{sampleOf}
-use Rattle.records.specs.Fed.{missing}
 use Rattle.replay.specs.Room.{Opening, left}
 use Rattle.replay.specs.Table.{Outcome, refused, answered}
 use Rattle.replay.specs.Machine.{opening, asking, closing, Call, atDesk, outsideLimits, verdict}
@@ -22,7 +21,7 @@ use Rattle.rules.specs.Rules.{Answer, feed, done, rules}
 use Rattle.calls.specs.Promises.{Moves}
 use Rattle.calls.proofs.Keeping.{moves-unsound, moves-refused}
 use Rattle.changes.specs.Changes.{freshDesk}
-use Rattle.changes.specs.FedStore.{Acceptable, recentAt}
+use Rattle.changes.specs.FedStore.{Acceptable, recentAt, isCounted, missingIf}
 use Rattle.changes.specs.Words.{Words}
 use Rattle.changes.proofs.Granting as grant
 use Rattle.changes.proofs.Vacant.{ready-there, shut-there, open-there}
@@ -109,7 +108,7 @@ module _ (s : List ℕ) (h : soundb s ≡ true) (d : ℕ) where
 
   module _ (k a : ℕ) where
     judged : Open s d → k ≤ 1 → a < symbolsAt s d → sizeAt s d (sampleOf k) < longest → Possible s (atDesk d (asking (feed k a)))
-    judged o one below short = elim (decLe (heldBy d (recordsIn s) + missing d (recentAt s d (sampleOf k)) (recordsIn s)) (reserveAt s d)) [
+    judged o one below short = elim (decLe (heldBy d (recordsIn s) + missingIf (isCounted s d (sampleOf k)) d (recentAt s d (sampleOf k)) (recordsIn s)) (reserveAt s d)) [
       | no past ↦ refuses 10 (atDesk d (asking (feed k a))) (judge.past-reservation s d k a o one below short h (omega arith))
       | yes within ↦ acceptable k a one (record { sound = h; at-open = o; of-alphabet = below; not-full = short; reserved = within })
     ]

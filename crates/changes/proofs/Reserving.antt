@@ -1,10 +1,10 @@
--- What refusal 10 speaks of: a sitting holds after a feed the contexts that it held, and those that were missing. Assumes nothing.
+-- What refusal 10 speaks of: a sitting holds after a feed the contexts that it held, and those that were missing, where it is counted. Assumes nothing.
 use mathlib.Core.Path.{_≡_, refl, sym, ap, ap₂, _∙_, subst}
 use mathlib.Core.Bool.{Bool, true, false, _&&_, _||_}
 use mathlib.Core.List.{List, []}
 use Prim.Native.Nat.{ℕ, _+_, _<_}
 use native.Mathlib.Omega.{arith}
-use borrow.Author.Tests.{le-leb, lt-ltb, eq-eqb}
+use borrow.Author.Tests.{lt-ltb, eq-eqb}
 use lib.Dec.{T, eqb, ltb, eqb→eq}
 use lib.ListN.{length, getD}
 use Rattle.numbers.specs.Sum.{one}
@@ -18,11 +18,8 @@ use Rattle.contexts.proofs.KeyOrder.{deskOf-key}
 use Rattle.contexts.proofs.Totalling.{total-within}
 use Rattle.records.specs.Records.{key}
 use Rattle.records.specs.Held.{held, keep, ofDesk}
-use Rattle.records.specs.Fed.{missing}
 use Rattle.records.proofs.Keeping.{rises-keep, held-keep}
 use Rattle.records.proofs.Finding.{place-held}
-use Rattle.recording.proofs.Feeding.{rising-fed, held-fed}
-use Rattle.recording.proofs.Growing.{desk-length-fed}
 use Rattle.store.specs.Layout.{symbolsAt, depthAt, sizeAt, recordsIn}
 use Rattle.store.specs.Sound.{soundb, heldBy}
 use Rattle.store.specs.Plain.{Open, ContextAt}
@@ -30,14 +27,12 @@ use Rattle.store.specs.Meaning.{openingAt, progressAt, sittingAt}
 use Rattle.store.proofs.Passing.{passed, desk-passed}
 use Rattle.store.proofs.Totalling.{total-keys}
 use Rattle.rules.specs.Feed as rule
-use Rattle.changes.specs.FedStore.{recentAt, recordsFed}
+use Rattle.changes.specs.FedStore.{recentAt, isCounted, missingIf, recordsFed}
 use Rattle.changes.proofs.Recent.{recent-within, within}
 use Rattle.changes.proofs.Before.{rising, held-is}
+use Rattle.changes.proofs.Whether.{rising-if, held-if, desk-length-if}
+use Rattle.changes.proofs.Counted.{regroup}
 use Rattle.changes.proofs.Owning.{owned-fed, owned-desk}
-
-regroup : (p b e : Bool) → (p && (true && (b && e))) ≡ ((p && b) && e)
-regroup true b e = refl
-regroup false b e = refl
 
 -- one more in one of two samples
 one-in : (i : Sample) (x y : ℕ) (b : Bool)
@@ -52,17 +47,17 @@ module _ (s : List ℕ) (h : soundb s ≡ true) (d : ℕ) (o : Open s d) (i : Sa
   abbrev after : Sitting
   after = sat (symbolsAt s d) (depthAt s d) (rule.afterFeed (openingAt s d) i a (progressAt s d))
 
-  total-after : (j : Sample) (c : List ℕ) → totalIn after j c ≡ totalIn (sittingAt s d) j c + one (sameSample j i && begins c (recentAt s d i))
+  total-after : (j : Sample) (c : List ℕ) → totalIn after j c ≡ totalIn (sittingAt s d) j c + one (sameSample j i && (isCounted s d i && begins c (recentAt s d i)))
   unfolding rule.afterFeed
   total-after j c =
-      sum-cong (symbolsAt s d) {g = λ b. progressAt s d .count j c b + one ((sameSample j i && begins c (recentAt s d i)) && eqb b a)}
-      (λ b m. rw (le-leb 0 (sizeAt s d i) (omega arith), regroup (sameSample j i) (begins c (recentAt s d i)) (eqb a b), eqb-sym a b))
-      ∙ sum-pick (symbolsAt s d) a (progressAt s d .count j c) (sameSample j i && begins c (recentAt s d i)) l
+      sum-cong (symbolsAt s d) {g = λ b. progressAt s d .count j c b + one ((sameSample j i && (isCounted s d i && begins c (recentAt s d i))) && eqb b a)}
+      (λ b m. rw (regroup (sameSample j i) (isCounted s d i) (begins c (recentAt s d i)) (eqb a b), eqb-sym a b))
+      ∙ sum-pick (symbolsAt s d) a (progressAt s d .count j c) (sameSample j i && (isCounted s d i && begins c (recentAt s d i))) l
 
-  -- a context is held then where it begins the recent symbols, or was held
-  held-after : (c : List ℕ) → isHeld after c ≡ (begins c (recentAt s d i) || isHeld (sittingAt s d) c)
+  -- a context is held then where the place is counted and it begins the recent symbols, or was held
+  held-after : (c : List ℕ) → isHeld after c ≡ ((isCounted s d i && begins c (recentAt s d i)) || isHeld (sittingAt s d) c)
   held-after c = ap₂ (λ (m n : ℕ). ltb 0 (m + n)) (total-after first c) (total-after second c)
-      ∙ one-in i (totalIn (sittingAt s d) first c) (totalIn (sittingAt s d) second c) (begins c (recentAt s d i))
+      ∙ one-in i (totalIn (sittingAt s d) first c) (totalIn (sittingAt s d) second c) (isCounted s d i && begins c (recentAt s d i))
 
   own-key : (c : List ℕ) → ContextAt s d c → ofDesk d (keyOf d c) ≡ true
   own-key c x = eq-eqb (deskOf (keyOf d c)) d (deskOf-key d c (within s h d o c x))
@@ -74,7 +69,7 @@ module _ (s : List ℕ) (h : soundb s ≡ true) (d : ℕ) (o : Open s d) (i : Sa
         held-is s h d o c x,
         held-keep (ofDesk d) (keyOf d c) (recordsFed s d i a),
         own-key c x,
-        held-fed d (recentAt s d i) (recent-within s h d o i) d c (within s h d o c x) i a (recordsIn s),
+        held-if d i a (recentAt s d i) (recent-within s h d o i) d c (within s h d o c x) (isCounted s d i) (recordsIn s),
         eq-eqb d d refl,
       )
 
@@ -87,11 +82,11 @@ module _ (s : List ℕ) (h : soundb s ≡ true) (d : ℕ) (o : Open s d) (i : Sa
       let e : w .desk ≡ d = sym (owned-desk s h k w) ∙ eqb→eq (deskOf k) d (left (ofDesk d k) (held k (recordsFed s d i a)) t) in
       (w .context, subst (λ (e : ℕ). ContextAt s e (w .context)) e (w .is-context), w .under-key ∙ ap (λ (e : ℕ). keyOf e (w .context)) e)
 
-  -- THEOREM. A sitting holds after a feed as many contexts as its desk had records, and as many more as were missing
-  pub held-fed-contexts : contextsHeld after ≡ heldBy d (recordsIn s) + missing d (recentAt s d i) (recordsIn s)
+  -- THEOREM. A sitting holds after a feed as many contexts as its desk had records, and as many more as it adds
+  pub held-fed-contexts : contextsHeld after ≡ heldBy d (recordsIn s) + missingIf (isCounted s d i) d (recentAt s d i) (recordsIn s)
   held-fed-contexts =
       let g = desk-passed s (passed s h) d o in
-      let up = rises-keep (ofDesk d) 0 (recordsFed s d i a) (rising-fed d i a (recentAt s d i) (recordsIn s) (rising s h)) in
+      let up = rises-keep (ofDesk d) 0 (recordsFed s d i a) (rising-if d i a (recentAt s d i) (isCounted s d i) (recordsIn s) (rising s h)) in
       total-within (symbolsAt s d) (depthAt s d) (λ c x. ap one (held-records-after c x))
       ∙ total-keys (symbolsAt s d) (depthAt s d) d (g .most) (g .depth) 0 (keep (ofDesk d) (recordsFed s d i a)) up own-context
-      ∙ desk-length-fed d i a (recentAt s d i) (recent-within s h d o i) (recordsIn s) (rising s h)
+      ∙ desk-length-if d i a (recentAt s d i) (recent-within s h d o i) (isCounted s d i) (recordsIn s) (rising s h)

@@ -24,9 +24,9 @@ use Rattle.store.specs.Plain.{Open, ContextAt, Counts, recordFor, totalAt, nthR
 use Rattle.store.proofs.Parts.{records-length}
 use Rattle.store.proofs.Standing.{sound-stands}
 use Rattle.store.proofs.Converse.{stands-sound}
-use Rattle.changes.specs.FedStore.{FedStore, Acceptable, recentAt}
+use Rattle.changes.specs.FedStore.{FedStore, Acceptable, recentAt, isCounted}
 use Rattle.changes.proofs.Recent.{within}
-use Rattle.changes.proofs.Counted.{begins-trans, one-part, either}
+use Rattle.changes.proofs.Counted.{counted-trans, one-part, either}
 use Rattle.changes.proofs.Header.{same?, limit-same, size-after, open-before, open-after, context-same, reservations-same, size-within, slots-below}
 use Rattle.changes.proofs.Tallied.{rising-after, count-after, total-after, owned-after, seen-after, held-after, few-after}
 
@@ -51,18 +51,19 @@ module _ (s t : List ℕ) (d : ℕ) (i : Sample) (a : ℕ) (f : FedStore s t d i
       count-after s t d i a f p e c (context-within e o c x) j b
       ∙ elim (same? e d) [
         | yes q ↦
-            let n : one (eqb d e && (sameSample i j && (begins c (recentAt s d i) && eqb a b))) ≡ 0 = none e (λ m. omega (arith, p .of-alphabet, ap (symbolsAt s) q)) in omega arith
-        | no q ↦ let n : one (eqb d e && (sameSample i j && (begins c (recentAt s d i) && eqb a b))) ≡ 0 = rw (ne-eqb d e (λ m. q (sym m))) in omega arith
+            let n : one (eqb d e && (sameSample i j && (isCounted s d i && (begins c (recentAt s d i) && eqb a b)))) ≡ 0 = none e (λ m. omega (arith, p .of-alphabet, ap (symbolsAt s) q)) in omega arith
+        | no q ↦ let n : one (eqb d e && (sameSample i j && (isCounted s d i && (begins c (recentAt s d i) && eqb a b)))) ≡ 0 = rw (ne-eqb d e (λ m. q (sym m))) in omega arith
       ]
     where
-      never : (x y z : Bool) → one (x && (y && (z && false))) ≡ 0
-      never true true true = refl
-      never true true false = refl
-      never true false z = refl
-      never false y z = refl
+      never : (x y k z : Bool) → one (x && (y && (k && (z && false)))) ≡ 0
+      never true true true true = refl
+      never true true true false = refl
+      never true true false z = refl
+      never true false k z = refl
+      never false y k z = refl
 
-      none : (e : ℕ) → (a ≡ b → ⊥) → one (eqb d e && (sameSample i j && (begins c (recentAt s d i) && eqb a b))) ≡ 0
-      none e m = rw (ne-eqb a b m) (never (eqb d e) (sameSample i j) (begins c (recentAt s d i)))
+      none : (e : ℕ) → (a ≡ b → ⊥) → one (eqb d e && (sameSample i j && (isCounted s d i && (begins c (recentAt s d i) && eqb a b)))) ≡ 0
+      none e m = rw (ne-eqb a b m) (never (eqb d e) (sameSample i j) (isCounted s d i) (begins c (recentAt s d i)))
 
   -- "no context's total N(s) in a sample passes that sample's length"
   totals-after : (e : ℕ) → Open t e → (c : List ℕ) → ContextAt t e c → (j : Sample) → totalAt t e j c ≤ sizeAt t e j
@@ -72,7 +73,7 @@ module _ (s t : List ℕ) (d : ℕ) (i : Sample) (a : ℕ) (f : FedStore s t d i
         total-after s t d i a f p e c (context-within e o c x) j,
         size-after s t d i a f e (o .desk) j,
         stands .totals e (before e o) c (context-before e o c x) j,
-        one-part (eqb d e) (sameSample i j) (begins c (recentAt s d i)),
+        one-part (eqb d e) (sameSample i j) (isCounted s d i && begins c (recentAt s d i)),
       )
 
   -- "no context is seen in a sample that has not seen its shorter suffixes"
@@ -80,8 +81,8 @@ module _ (s t : List ℕ) (d : ℕ) (i : Sample) (a : ℕ) (f : FedStore s t d i
   suffixes-after e o c u x b j l =
       let one-more = total-after s t d i a f p e c (context-within e o c x) j in
       rw (total-after s t d i a f p e u wu j)
-      (either (totalAt s e j c) (totalAt s e j u) (eqb d e) (sameSample i j) (begins c (recentAt s d i)) (begins u (recentAt s d i))
-      (stands .suffixes e (before e o) c u (context-before e o c x) b j) (begins-trans u c (recentAt s d i) b) (omega arith))
+      (either (totalAt s e j c) (totalAt s e j u) (eqb d e) (sameSample i j) (isCounted s d i && begins c (recentAt s d i)) (isCounted s d i && begins u (recentAt s d i))
+      (stands .suffixes e (before e o) c u (context-before e o c x) b j) (counted-trans (isCounted s d i) u c (recentAt s d i) b) (omega arith))
     where
       wu : Within u
       wu = subst Within (begins→take u c b) (context-take _ _ (length u) c (context-within e o c x))

@@ -2,7 +2,7 @@
 use mathlib.Core.Path.{_≡_}
 use mathlib.Core.Bool.{true, not}
 use mathlib.Core.List.{List, [], _++_}
-use Prim.Native.Nat.{ℕ, suc, _+_, _-_, _*_, _^_, _<_}
+use Prim.Native.Nat.{ℕ, _+_, _-_, _*_, _^_, _<_}
 use native.Mathlib.Omega.{arith}
 use lib.Dec.{lit<}
 use lib.ListN.{length, take, drop, getD, set}
@@ -13,7 +13,6 @@ use Rattle.contexts.proofs.Strings.{context-length}
 use Rattle.records.specs.Records.{width, startOf}
 use Rattle.records.specs.Held.{ofDesk, without}
 use Rattle.records.specs.Bumped.{cellOf}
-use Rattle.recording.proofs.Feeding.{wide-fed}
 use Rattle.recording.proofs.Desks.{length-without}
 use Rattle.replay.specs.Room.{Opening}
 use Rattle.store.specs.Layout.{headerSize, deskStart, deskNumbers, sizeField, recentField, used, recordsIn}
@@ -23,9 +22,10 @@ use Rattle.store.proofs.Parts.{records-length}
 use Rattle.store.proofs.Standing.{sound-stands}
 use Rattle.store.proofs.Passing.{passed, header-long}
 use Rattle.changes.specs.Changes.{freshDesk}
-use Rattle.changes.specs.FedStore.{Acceptable, recentAt, recordsFed, shifted}
+use Rattle.changes.specs.FedStore.{Acceptable, recentAt, isCounted, countingContexts, recordsFed, shifted}
 use Rattle.changes.specs.Words.{Words}
 use Rattle.changes.proofs.Before.{wide, record-small}
+use Rattle.changes.proofs.Whether.{counting-few, wide-if}
 use Rattle.changes.proofs.Recent.{recent-within}
 use Rattle.changes.proofs.Filling.{room-enough}
 use Rattle.changes.proofs.Numbering.{fields-of}
@@ -83,7 +83,7 @@ module _ (s : List ℕ) (h : soundb s ≡ true) (w : Words s) where
         let recent = recentAt s d i in
         let within = recent-within s h d (p .at-open) i in
         let cells = cells-of (cellOf i a) longest (recordsIn s) (λ n l. let e = getD-part mostSymbols (startOf i) (getD (recordsIn s) n []) a 0 small in omega (arith, record-small s h i a small n l)) in
-        words-fed d (p .at-open .desk) i a small recent within longest (recordsIn s) (suc (length recent)) (omega (arith, context-length mostSymbols deepest recent within)) records-words cells .0
+        words-fed d (p .at-open .desk) i a small recent within longest (recordsIn s) (countingContexts (isCounted s d i) recent) (omega (arith, counting-few (isCounted s d i) recent, context-length mostSymbols deepest recent within)) records-words cells .0
 
     -- the header as it was, and the records fed
     abbrev counted : List ℕ
@@ -94,7 +94,7 @@ module _ (s : List ℕ) (h : soundb s ≡ true) (w : Words s) where
 
     size-small : getD counted (deskStart d + sizeField i) 0 + 1 < 2 ^ 32
     size-small =
-        let whole = wide-fed d i a (recentAt s d i) (recordsIn s) (wide s h) in
+        let whole = wide-if d i a (recentAt s d i) (isCounted s d i) (recordsIn s) (wide s h) in
         let long = front-long (recordsFed s d i a) (body s) whole (fits s h (recordsFed s d i a) (room-enough s d i a p)) in
         let same = headed s (inFront (recordsFed s d i a) (body s)) (header-long s h) long .header (deskStart d + sizeField i) (omega (arith, p .at-open .desk, fields-of i .high)) in
         omega (arith, p .not-full)

@@ -13,15 +13,15 @@ use Rattle.contexts.specs.Sitting.{Sample, first, second, sameSample}
 use Rattle.contexts.proofs.KeyOrder.{Within}
 use Rattle.records.specs.Records.{lookup, countOf}
 use Rattle.records.specs.Held.{held, Rising}
-use Rattle.recording.proofs.Feeding.{count-fed, held-fed, rising-fed}
 use Rattle.store.specs.Layout.{room, used, reserveAt, recordsIn, totalOf}
 use Rattle.store.specs.Sound.{heldBy}
 use Rattle.store.specs.Plain.{Open, recordFor, totalAt}
 use Rattle.store.proofs.Parts.{records-length}
 use Rattle.store.proofs.Passing.{passed, desk-passed}
-use Rattle.changes.specs.FedStore.{FedStore, Acceptable, recentAt}
+use Rattle.changes.specs.FedStore.{FedStore, Acceptable, recentAt, isCounted}
 use Rattle.changes.proofs.Recent.{recent-within}
 use Rattle.changes.proofs.Before.{rising, wide, held-seen}
+use Rattle.changes.proofs.Whether.{rising-if, held-if, count-if}
 use Rattle.changes.proofs.Counted.{total-fed}
 use Rattle.changes.proofs.Owning.{Owned, owned-fed}
 use Rattle.changes.proofs.Filling.{held-within, room-enough}
@@ -34,21 +34,21 @@ module _ (s t : List ℕ) (d : ℕ) (i : Sample) (a : ℕ) (f : FedStore s t d i
   small = omega (arith, p .of-alphabet, desk-passed s (passed s (p .sound)) d (p .at-open) .most)
 
   pub rising-after : Rising (recordsIn t)
-  rising-after = rw (f .records-fed) (rising-fed d i a (recentAt s d i) (recordsIn s) (rising s (p .sound)))
+  rising-after = rw (f .records-fed) (rising-if d i a (recentAt s d i) (isCounted s d i) (recordsIn s) (rising s (p .sound)))
 
   -- ---- counts and totals
 
   pub count-after : (e : ℕ) (c : List ℕ) → Within c → (j : Sample) (b : ℕ)
-      → countOf j (recordFor t e c) b ≡ countOf j (recordFor s e c) b + one (eqb d e && (sameSample i j && (begins c (recentAt s d i) && eqb a b)))
+      → countOf j (recordFor t e c) b ≡ countOf j (recordFor s e c) b + one (eqb d e && (sameSample i j && (isCounted s d i && (begins c (recentAt s d i) && eqb a b))))
   count-after e c x j b =
       ap (λ (rs : List (List ℕ)). countOf j (lookup (keyOf e c) rs) b) (f .records-fed)
-      ∙ count-fed d (recentAt s d i) cr e c x i a j b (recordsIn s) small (wide s (p .sound)) (rising s (p .sound))
+      ∙ count-if d i a (recentAt s d i) cr e c x (isCounted s d i) j b (recordsIn s) small (wide s (p .sound)) (rising s (p .sound))
 
   pub total-after : (e : ℕ) (c : List ℕ) → Within c → (j : Sample)
-      → totalAt t e j c ≡ totalAt s e j c + one (eqb d e && (sameSample i j && begins c (recentAt s d i)))
+      → totalAt t e j c ≡ totalAt s e j c + one (eqb d e && (sameSample i j && (isCounted s d i && begins c (recentAt s d i))))
   total-after e c x j =
       ap (λ (rs : List (List ℕ)). totalOf j (lookup (keyOf e c) rs)) (f .records-fed)
-      ∙ total-fed d i a (recentAt s d i) cr small (recordsIn s) (wide s (p .sound)) (rising s (p .sound)) e c x j
+      ∙ total-fed (isCounted s d i) d i a (recentAt s d i) cr small (recordsIn s) (wide s (p .sound)) (rising s (p .sound)) e c x j
 
   -- ---- whose a record is
 
@@ -58,10 +58,10 @@ module _ (s t : List ℕ) (d : ℕ) (i : Sample) (a : ℕ) (f : FedStore s t d i
   -- what a held context has counted
   pub seen-after : (e : ℕ) (c : List ℕ) → Within c → T (held (keyOf e c) (recordsIn t)) → 0 < totalAt t e first c + totalAt t e second c
   seen-after e c x h =
-      rw (total-after e c x first, total-after e c x second) (go (eqb d e) (begins c (recentAt s d i)) i h′)
+      rw (total-after e c x first, total-after e c x second) (go (eqb d e) (isCounted s d i && begins c (recentAt s d i)) i h′)
     where
-      h′ : T ((eqb d e && begins c (recentAt s d i)) || held (keyOf e c) (recordsIn s))
-      h′ = rw (f .records-fed, held-fed d (recentAt s d i) cr e c x i a (recordsIn s)) at h
+      h′ : T ((eqb d e && (isCounted s d i && begins c (recentAt s d i))) || held (keyOf e c) (recordsIn s))
+      h′ = rw (f .records-fed, held-if d i a (recentAt s d i) cr e c x (isCounted s d i) (recordsIn s)) at h
 
       before : T (held (keyOf e c) (recordsIn s)) → 0 < totalAt s e first c + totalAt s e second c
       before = held-seen s (p .sound) (keyOf e c)

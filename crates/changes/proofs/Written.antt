@@ -11,16 +11,16 @@ use Rattle.records.specs.Records.{width, records}
 use Rattle.records.specs.Held.{without}
 use Rattle.records.specs.Bumped.{Written}
 use Rattle.records.proofs.Lent.{tail-lent}
-use Rattle.recording.proofs.Feeding.{wide-fed}
 use Rattle.recording.proofs.Desks.{wide-without, length-without}
 use Rattle.store.specs.Layout.{headerSize, room, used, deskStart, sizeField, recentField, recordsIn}
 use Rattle.store.specs.Sound.{soundb}
 use Rattle.store.proofs.Parts.{records-length}
 use Rattle.store.proofs.Passing.{passed}
 use Rattle.changes.specs.Changes.{Closed}
-use Rattle.changes.specs.FedStore.{FedStore, Acceptable, recentAt, recordsFed}
+use Rattle.changes.specs.FedStore.{FedStore, Acceptable, recentAt, isCounted, recordsFed}
 use Rattle.changes.specs.Noted.{noted}
 use Rattle.changes.proofs.Before.{wide}
+use Rattle.changes.proofs.Whether.{wide-if}
 use Rattle.changes.proofs.Filling.{room-enough}
 use Rattle.changes.proofs.Flat.{inFront, front-written, front-long}
 use Rattle.changes.proofs.Placing.{fed-store}
@@ -43,7 +43,7 @@ fedStore s d i a =
 
 pub fed-now : (s : List ℕ) (d : ℕ) (i : Sample) (a : ℕ) → Acceptable s d i a → FedStore s (fedStore s d i a) d i a
 fed-now s d i a p =
-    let whole = wide-fed d i a (recentAt s d i) (recordsIn s) (wide s (p .sound)) in
+    let whole = wide-if d i a (recentAt s d i) (isCounted s d i) (recordsIn s) (wide s (p .sound)) in
     fed-store s d i a p (length (recordsFed s d i a)) (inFront (recordsFed s d i a) (body s))
     (front-long (recordsFed s d i a) (body s) whole (fits s (p .sound) (recordsFed s d i a) (room-enough s d i a p)))
     (front-written (recordsFed s d i a) (body s) whole)

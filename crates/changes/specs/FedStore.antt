@@ -1,25 +1,44 @@
 -- How the numbers of a store after an accepted feed stand to those before. Assumes nothing.
-use Prim.Native.Nat.{ℕ, min, _+_, _≤_, _<_}
+use Prim.Native.Nat.{ℕ, suc, min, _+_, _≤_, _<_}
 use mathlib.Core.Path.{_≡_}
 use mathlib.Core.Logic.{_≢_}
-use mathlib.Core.Bool.{true, cond}
+use mathlib.Core.Bool.{Bool, true, cond}
 use mathlib.Core.List.{List, _∷_}
 use lib.ListN.{length, take, drop}
+use lib.Dec.{leb}
 use Rattle.numbers.specs.Limits.{longest, desks}
 use Rattle.numbers.specs.Sum.{one}
 use Rattle.contexts.specs.Sitting.{Sample, sampleOf, sameSample}
-use Rattle.records.specs.Fed.{fed, missing}
+use Rattle.records.specs.Fed.{fedTo, missingTo}
 use Rattle.store.specs.Layout.{storeSize, room, field, symbolsAt, depthAt, reserveAt, sizeAt, slotsAt, recordsIn, deskNumbers}
 use Rattle.store.specs.Sound.{soundb, heldBy}
 use Rattle.store.specs.Plain.{Open}
+use Rattle.store.specs.Meaning.{openingAt}
+use Rattle.rules.specs.Feed.{countedFrom}
 
 -- the last up to D symbols of a sample, most recent first
 abbrev pub recentAt : List ℕ → ℕ → Sample → List ℕ
 recentAt s d i = take (min (sizeAt s d i) (depthAt s d)) (slotsAt s d i)
 
--- the records after symbol a is fed to sample i of desk d: every context that it follows has one more count, and no other record has changed
+-- whether the next symbol of a sample is counted: its place has D symbols before it
+abbrev pub isCounted : List ℕ → ℕ → Sample → Bool
+isCounted s d i = leb (countedFrom (openingAt s d)) (sizeAt s d i)
+
+-- how many of the contexts that a symbol follows count it: all where its place is counted, and none where it is not
+abbrev pub countingContexts : Bool → List ℕ → ℕ
+countingContexts counted recent = cond counted (suc (length recent)) 0
+
+-- symbol a is fed to sample i of desk d, at a place that is counted or not
+abbrev pub fedIf : Bool → ℕ → Sample → ℕ → List ℕ → List (List ℕ) → List (List ℕ)
+fedIf counted d i a recent rs = fedTo (countingContexts counted recent) d i a recent rs
+
+-- how many of the contexts that count it no record has yet
+abbrev pub missingIf : Bool → ℕ → List ℕ → List (List ℕ) → ℕ
+missingIf counted d recent rs = missingTo (countingContexts counted recent) d recent rs
+
+-- the records after symbol a is fed to sample i of desk d: every context that counts it has one more count, and no other record has changed
 abbrev pub recordsFed : List ℕ → ℕ → Sample → ℕ → List (List ℕ)
-recordsFed s d i a = fed d i a (recentAt s d i) (recordsIn s)
+recordsFed s d i a = fedIf (isCounted s d i) d i a (recentAt s d i) (recordsIn s)
 
 -- what refusals 1 to 9 leave to a feed of symbol a to sample number k of desk d
 pub record Judged (s : List ℕ) (d k a : ℕ) : Type 0 where
@@ -35,7 +54,7 @@ pub record Acceptable (s : List ℕ) (d : ℕ) (i : Sample) (a : ℕ) : Type 0 w
   pub at-open : Open s d
   pub of-alphabet : a < symbolsAt s d
   pub not-full : sizeAt s d i < longest
-  pub reserved : heldBy d (recordsIn s) + missing d (recentAt s d i) (recordsIn s) ≤ reserveAt s d
+  pub reserved : heldBy d (recordsIn s) + missingIf (isCounted s d i) d (recentAt s d i) (recordsIn s) ≤ reserveAt s d
 
 -- six recent symbols after symbol a: a first, the oldest gone
 abbrev pub shifted : ℕ → List ℕ → List ℕ

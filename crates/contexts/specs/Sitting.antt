@@ -33,7 +33,7 @@ pub record Sitting : Type 0 where
   -- N(s,a) in each sample
   pub count : Sample → List ℕ → ℕ → ℕ
 
--- the sitting of two pasts, each most recent symbol first, where places after `from` symbols are counted
+-- the sitting of two pasts, each most recent symbol first, where the places past the first `from` are counted
 abbrev pub sittingOf : ℕ → ℕ → ℕ → (Sample → List ℕ) → Sitting
 sittingOf A D from past = record { symbols = A; depth = D; size = λ i. length (past i); count = λ i. N from (past i) }
 

@@ -1,6 +1,6 @@
--- "The eleven marked examples (six values, J1 to J5) are proved together by a single statement over a list." Request E2 adds the value of 4,096. The
--- J examples are told of the room's machine: a desk of a new room is opened, the first sample is fed, then the second, and a report is asked for. Beside
--- them stand two with more than two symbols, since no J example tests the factor A - 1. Assumes nothing.
+-- "The eleven marked examples (six values, J1 to J5) are proved together by a single statement over a list." Request E2 adds the value of 4,096, and E3
+-- the empty context's counts in J1. The J examples are told of the room's machine: a desk of a new room is opened, the first sample is fed, then the
+-- second, and a report is asked for. Beside them stand two with more than two symbols, since no J example tests the factor A - 1. Assumes nothing.
 use Prim.Native.Nat.{ℕ}
 use mathlib.Core.Path.{_≡_}
 use mathlib.Core.List.{List, [], _∷_, _++_, map}
@@ -9,10 +9,11 @@ use lib.IntN.{ℤ, pos, negℤ}
 use Rattle.numbers.specs.Limits.{mostSymbols}
 use Rattle.logarithm.specs.Logarithm.{L}
 use Rattle.rows.specs.Rows.{numbersOf}
-use Rattle.replay.specs.Room.{new}
+use Rattle.contexts.specs.Sitting.{Sample, first, second, eight, Progress}
+use Rattle.replay.specs.Room.{Desk, closed, opened, new}
 use Rattle.replay.specs.Table.{Outcome, refused, answered}
 use Rattle.replay.specs.Machine.{opening, asking, Call, atDesk}
-use Rattle.replay.specs.Serial.{outcomes}
+use Rattle.replay.specs.Serial.{outcomes, after}
 use Rattle.rules.specs.Rules.{Answer, done, contextsLeft, reported, point, feed, reporting, rules}
 
 -- ---- the calls of a sitting
@@ -47,16 +48,27 @@ row kind len code counts = kind ∷ len ∷ code ∷ take mostSymbols (counts ++
 
 -- ---- examples
 
--- L(n); or the calls of a sitting with A, D, r and two samples, on a new room of r contexts
+-- desk 0 of a new room after these calls
+abbrev pub deskAfter : ℕ → ℕ → ℕ → List ℕ → List ℕ → Desk Progress
+deskAfter A D r w v = after rules (new r) (callsOf A D r w v) .at 0
+
+-- what an open desk's sitting has counted of a context in a sample, symbol by symbol
+abbrev pub countsAt : Desk Progress → Sample → List ℕ → List ℕ
+countsAt closed i s = []
+countsAt (opened o p) i s = take (o .symbols) (eight (p .count i s))
+
+-- L(n); or the calls of a sitting with A, D, r and two samples, on a new room of r contexts; or the counts of a context in each sample after these
 pub data Question : Type 0 where
   logarithm : ℕ → Question
   sitting : ℕ → ℕ → ℕ → List ℕ → List ℕ → Question
+  counting : List ℕ → ℕ → ℕ → ℕ → List ℕ → List ℕ → Question
 
--- a value; or: everything is done, and the report has these rows and this score; or: what each call is told
+-- a value; or: everything is done, and the report has these rows and this score; or: what each call is told; or: the first's counts and the second's
 pub data Given : Type 0 where
   value : ℕ → Given
   reports : List (List ℕ) → ℤ → Given
   each : List Said → Given
+  inEach : List ℕ → List ℕ → Given
 
 infix 68 _gives_
 pub data Example : Type 0 where
@@ -65,18 +77,22 @@ pub data Example : Type 0 where
 pub data Worked : Type 0 where
   isValue : ℕ → Worked
   areSaid : List Said → Worked
+  areCounts : List ℕ → List ℕ → Worked
 
 -- what the model answers
 abbrev pub answered-to : Question → Worked
 answered-to (logarithm n) = isValue (L n)
 answered-to (sitting A D r w v) = areSaid (map say (outcomes rules (new r) (callsOf A D r w v)))
+answered-to (counting s A D r w v) = areCounts (countsAt (deskAfter A D r w v) first s) (countsAt (deskAfter A D r w v) second s)
 
 -- what the example says
 abbrev pub expected : Question → Given → Worked
 expected q (value k) = isValue k
 expected (sitting A D r w v) (reports ls n) = areSaid (did ∷ (map (λ a. did) w ++ (map (λ a. did) v ++ (rows ls n ∷ []))))
 expected (logarithm n) (reports ls s) = areSaid []
+expected (counting s A D r w v) (reports ls n) = areSaid []
 expected q (each ts) = areSaid ts
+expected q (inEach x y) = areCounts x y
 
 abbrev pub asked : Example → Worked
 asked (q gives a) = answered-to q
@@ -88,7 +104,8 @@ given (q gives a) = expected q a
 abbrev pub AllHold : List Example → Type 0
 AllHold es = map asked es ≡ map given es
 
--- the six values with that of 4,096 (request E2), and J1 to J5; J1 "needs r 3; with r 2 the third feed of the first sample gets 10"
+-- the six values with that of 4,096 (request E2), and J1 to J5 as E3 works them; J1 "needs r 3; with r 2 the third feed of the first sample gets 10",
+-- and "the empty context's counts become (1,2) in each sample"
 unfoldable pub marked : List Example
 marked =
     logarithm 1 gives value 0
@@ -100,15 +117,16 @@ marked =
     ∷ logarithm 4096 gives value 12288
     ∷ sitting 2 1 3 (0 ∷ 1 ∷ 0 ∷ 1 ∷ []) (0 ∷ 1 ∷ 0 ∷ 1 ∷ []) gives reports (row 0 1 0 (0 ∷ 4 ∷ []) ∷ row 0 1 1 (2 ∷ 0 ∷ []) ∷ []) (negℤ (pos 6144))
     ∷ sitting 2 1 2 (0 ∷ 1 ∷ 0 ∷ []) [] gives each (did ∷ did ∷ did ∷ refusedWith 10 ∷ refusedWith 11 ∷ [])
-    ∷ sitting 2 1 3 (0 ∷ 1 ∷ 0 ∷ 1 ∷ []) (0 ∷ 0 ∷ 0 ∷ 0 ∷ []) gives reports (row 2 0 0 (4 ∷ 0 ∷ []) ∷ row 1 1 0 (0 ∷ 2 ∷ []) ∷ row 1 1 1 (1 ∷ 0 ∷ []) ∷ []) (negℤ (pos 6144))
+    ∷ counting [] 2 1 3 (0 ∷ 1 ∷ 0 ∷ 1 ∷ []) (0 ∷ 1 ∷ 0 ∷ 1 ∷ []) gives inEach (1 ∷ 2 ∷ []) (1 ∷ 2 ∷ [])
+    ∷ sitting 2 1 3 (0 ∷ 1 ∷ 0 ∷ 1 ∷ []) (0 ∷ 0 ∷ 0 ∷ 0 ∷ []) gives reports (row 2 0 0 (3 ∷ 0 ∷ []) ∷ row 1 1 0 (0 ∷ 2 ∷ []) ∷ row 1 1 1 (1 ∷ 0 ∷ []) ∷ []) (negℤ (pos 6144))
     ∷ sitting 2 1 3 (0 ∷ 1 ∷ 0 ∷ 1 ∷ 0 ∷ 1 ∷ 0 ∷ 1 ∷ []) (0 ∷ 0 ∷ 1 ∷ 0 ∷ 0 ∷ 1 ∷ 0 ∷ 0 ∷ []) gives reports (row 1 1 0 (0 ∷ 4 ∷ []) ∷ row 2 1 0 (3 ∷ 2 ∷ []) ∷ row 0 1 1 (5 ∷ 0 ∷ []) ∷ []) (negℤ (pos 20176))
     ∷ sitting 2 0 1 (0 ∷ 1 ∷ 0 ∷ 1 ∷ []) (0 ∷ 1 ∷ 0 ∷ 1 ∷ []) gives reports (row 0 0 0 (4 ∷ 4 ∷ []) ∷ []) (negℤ (pos 19456))
-    ∷ sitting 2 1 1 (0 ∷ []) (0 ∷ []) gives reports (row 1 0 0 (1 ∷ 0 ∷ []) ∷ row 2 0 0 (1 ∷ 0 ∷ []) ∷ []) (negℤ (pos 0))
+    ∷ sitting 2 1 1 (0 ∷ []) (0 ∷ []) gives reports (row 1 0 0 (0 ∷ 0 ∷ []) ∷ row 2 0 0 (0 ∷ 0 ∷ []) ∷ []) (negℤ (pos 0))
     ∷ []
 
 -- a split of both with a context that is each sample's own, at A = 3; a shared leaf at A = 8
 unfoldable pub wider : List Example
 wider =
-    sitting 3 2 9 (0 ∷ 1 ∷ 2 ∷ 0 ∷ 1 ∷ 2 ∷ 0 ∷ 1 ∷ 2 ∷ 0 ∷ 1 ∷ 2 ∷ []) (0 ∷ 1 ∷ 1 ∷ 0 ∷ 1 ∷ 1 ∷ 0 ∷ 1 ∷ 1 ∷ 0 ∷ 1 ∷ 1 ∷ []) gives reports (row 0 1 0 (0 ∷ 8 ∷ 0 ∷ []) ∷ row 1 1 1 (0 ∷ 0 ∷ 4 ∷ []) ∷ row 2 1 1 (3 ∷ 4 ∷ 0 ∷ []) ∷ row 0 1 2 (3 ∷ 0 ∷ 0 ∷ []) ∷ []) (negℤ (pos 47578))
-    ∷ sitting 8 1 4 (0 ∷ 7 ∷ 0 ∷ 7 ∷ 0 ∷ 7 ∷ 0 ∷ 7 ∷ 0 ∷ 7 ∷ []) (0 ∷ 7 ∷ 0 ∷ 7 ∷ 0 ∷ 7 ∷ 0 ∷ 7 ∷ 0 ∷ 1 ∷ []) gives reports (row 0 0 0 (10 ∷ 1 ∷ 0 ∷ 0 ∷ 0 ∷ 0 ∷ 0 ∷ 9 ∷ []) ∷ []) (negℤ (pos 81527))
+    sitting 3 2 8 (0 ∷ 1 ∷ 2 ∷ 0 ∷ 1 ∷ 2 ∷ 0 ∷ 1 ∷ 2 ∷ 0 ∷ 1 ∷ 2 ∷ []) (0 ∷ 1 ∷ 1 ∷ 2 ∷ 0 ∷ 1 ∷ 1 ∷ 2 ∷ 0 ∷ 1 ∷ 1 ∷ 2 ∷ []) gives reports (row 0 1 0 (0 ∷ 5 ∷ 0 ∷ []) ∷ row 1 1 1 (0 ∷ 0 ∷ 4 ∷ []) ∷ row 2 1 1 (0 ∷ 3 ∷ 3 ∷ []) ∷ row 0 1 2 (5 ∷ 0 ∷ 0 ∷ []) ∷ []) (negℤ (pos 45752))
+    ∷ sitting 8 1 4 (0 ∷ 7 ∷ 0 ∷ 7 ∷ 0 ∷ 7 ∷ 0 ∷ 7 ∷ 0 ∷ 7 ∷ []) (0 ∷ 7 ∷ 0 ∷ 7 ∷ 0 ∷ 7 ∷ 0 ∷ 7 ∷ 0 ∷ 1 ∷ []) gives reports (row 0 0 0 (8 ∷ 1 ∷ 0 ∷ 0 ∷ 0 ∷ 0 ∷ 0 ∷ 9 ∷ []) ∷ []) (negℤ (pos 77115))
     ∷ []

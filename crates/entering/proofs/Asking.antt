@@ -30,7 +30,7 @@ use Rattle.store.specs.Sound.{soundb, heldBy}
 use Rattle.store.specs.Plain.{Open}
 use Rattle.store.proofs.Parts.{records-length}
 use Rattle.store.proofs.Standing.{sound-stands}
-use Rattle.changes.specs.FedStore.{Acceptable, recentAt}
+use Rattle.changes.specs.FedStore.{Acceptable, recentAt, isCounted}
 use Rattle.entering.specs.Seeking.{Found, Spanned}
 use Rattle.changes.proofs.Recent.{recent-within}
 use Rattle.changes.proofs.Before.{rising, standing, record-small}
@@ -44,12 +44,12 @@ count-small : (s : List ℕ) → soundb s ≡ true → (i : Sample) (a k : ℕ) 
 count-small s h i a k l =
     lookup-each (λ r. getD (countsOf i r) a 0 ≤ longest) k (recordsIn s) (omega (arith, count-blank i a k)) (record-small s h i a l)
 
-pub feedable : (s : List ℕ) (d k a : ℕ) → k ≤ 1 → Acceptable s d (sampleOf k) a → Feedable d k a (recentAt s d (sampleOf k)) (used s) (drop headerSize s)
+pub feedable : (s : List ℕ) (d k a : ℕ) → k ≤ 1 → Acceptable s d (sampleOf k) a → isCounted s d (sampleOf k) ≡ true → Feedable d k a (recentAt s d (sampleOf k)) (used s) (drop headerSize s)
 unfolding recordsIn
-feedable s d k a one p =
+feedable s d k a one p c =
     let g = sound-stands s (p .sound) in
     let small : a < mostSymbols = omega (arith, p .of-alphabet, g .alphabet-most d (p .at-open)) in
-    let fits : width * (used s + missing d (recentAt s d (sampleOf k)) (recordsIn s)) ≤ width * room s = mul-le-mul-left width (room-missing s d (sampleOf k) a p) in
+    let fits : width * (used s + missing d (recentAt s d (sampleOf k)) (recordsIn s)) ≤ width * room s = mul-le-mul-left width (rw c at (room-missing s d (sampleOf k) a p)) in
     record {
       asked = askable s (p .sound) d (p .at-open) (sampleOf k);
       sample = omega arith;

@@ -1,19 +1,20 @@
-// A feed entered into a store: the symbols that it follows, where its contexts stand, whether those missing pass the reservation, its records and its header.
+// A feed entered into a store: whether its place is counted, the symbols that it follows, where its contexts stand, whether those missing pass the
+// reservation, its records and its header.
 ghost use mathlib.Core.Path.{_≡_};
-ghost use mathlib.Core.Bool.{true};
-ghost use Prim.Native.Nat.{min, _+_, _-_, _≤_, _<_};
+ghost use mathlib.Core.Bool.{true, false};
+ghost use Prim.Native.Nat.{_+_, _-_, _≤_, _<_};
 ghost use lib.Dec.{ltb};
 ghost use lib.ListN.{length, take, drop, getD};
-ghost use Rattle.numbers.specs.Limits.{deepest, longest};
+ghost use Rattle.numbers.specs.Limits.{deepest, longest, desks};
 ghost use Rattle.contexts.specs.Sitting.{sampleOf};
 ghost use Rattle.records.specs.Records.{records};
 ghost use Rattle.records.specs.Held.{keep, ofDesk};
 ghost use Rattle.records.specs.Fed.{Askable};
 ghost use Rattle.records.specs.Located.{Located, Seeks};
-ghost use Rattle.store.specs.Layout.{headerSize, used, depthAt, reserveAt, sizeAt, slotsAt, recordsIn};
+ghost use Rattle.store.specs.Layout.{headerSize, deskStart, sizeField, recentField, used, depthAt, reserveAt, sizeAt, slotsAt, recordsIn};
 ghost use Rattle.store.specs.Sound.{soundb, heldBy};
 ghost use Rattle.store.specs.Plain.{Open};
-ghost use Rattle.changes.specs.FedStore.{shifted, recentAt, Acceptable, FedStore};
+ghost use Rattle.changes.specs.FedStore.{shifted, recentAt, isCounted, Acceptable, FedStore};
 ghost use Rattle.entering.specs.Seeking.{Found, Spanned};
 ghost use Rattle.changes.specs.Noted.{noted, Places};
 use recording::feed_records;
@@ -32,37 +33,37 @@ use store::layout::SLOTS;
 use store::layout::USED;
 use store::layout::field_at;
 
-// The symbols of a sample that the next one follows, most recent first: the first `many` of six.
+// The symbols of a sample that a counted one follows, most recent first: the first `many` of six.
 pub struct Latest {
     pub symbols: [u32; 6],
     pub many: usize,
 }
 
-// Copies the up to D most recent symbols of a sample.
-pub fn recent_of(store: &[u32], desk: u32, sample: u32) -> Latest
+// Whether the next symbol of a sample is counted: only a place with D symbols before it is.
+pub fn is_counted(store: &[u32], desk: u32, sample: u32) -> bool
     requires { ⌜ (soundb (now store) ≡ true) × Open (now store) desk × (sample ≤ 1) ⌝ }
-    ensures { λ r. ⌜ (r .many ≡ min (sizeAt (now (store .entry)) desk (sampleOf sample)) (depthAt (now (store .entry)) desk)) × (r .symbols ≡ slotsAt (now (store .entry)) desk (sampleOf sample)) ⌝ }
+    ensures { λ r. ⌜ r ≡ isCounted (now (store .entry)) desk (sampleOf sample) ⌝ }
 {
     let d = desk as usize;
     let i = sample as usize;
     let size = field_at(store, d, SIZE_FIRST + i);
     let depth = field_at(store, d, DEPTH);
-    let many = fewer(size, depth) as usize;
+    depth <= size
+}
+
+// Copies the six places of a sample's recent symbols. Where the next symbol is counted, it follows the first D of them.
+pub fn recent_of(store: &[u32], desk: u32, sample: u32) -> Latest
+    requires { ⌜ (soundb (now store) ≡ true) × Open (now store) desk × (sample ≤ 1) ⌝ }
+    ensures { λ r. ⌜ (r .many ≡ depthAt (now (store .entry)) desk) × (r .symbols ≡ slotsAt (now (store .entry)) desk (sampleOf sample)) ⌝ }
+{
+    let d = desk as usize;
+    let i = sample as usize;
+    let many = field_at(store, d, DEPTH) as usize;
     let symbols = six_from(
         store,
         FIRST_DESK + DESK_SIZE * d + (RECENT_FIRST + SLOTS * i),
     );
     Latest { symbols, many }
-}
-
-// The smaller of two numbers.
-fn fewer(a: u32, b: u32) -> u32
-    ensures { λ r. ⌜ r ≡ min a b ⌝ }
-{
-    if a < b {
-        return a;
-    }
-    b
 }
 
 // The six recent symbols from a place on.
@@ -115,7 +116,7 @@ fn held_by(numbers: &[u32], n: usize, desk: u32, first: usize, from: usize) -> u
     place_from(numbers, n, from, past) - first
 }
 
-// Writes an accepted feed: the records, then the header. `recent` are the symbols before it, most recent first.
+// Writes an accepted feed that is counted: the records, then the header. `recent` are the symbols before it, most recent first.
 pub fn write_feed(
     store: &mut [u32],
     desk: u32,
@@ -124,17 +125,34 @@ pub fn write_feed(
     recent: &[u32],
     sought: Sought,
 )
-    requires { ⌜ Acceptable (now store) desk (sampleOf sample) symbol × (sample ≤ 1) × (now recent ≡ recentAt (now store) desk (sampleOf sample)) × Located desk (now recent) (recordsIn (now store)) (sought .found) (sought .places) ⌝ }
+    requires { ⌜ Acceptable (now store) desk (sampleOf sample) symbol × (sample ≤ 1) × (now recent ≡ recentAt (now store) desk (sampleOf sample)) × Located desk (now recent) (recordsIn (now store)) (sought .found) (sought .places) × (isCounted (now store) desk (sampleOf sample) ≡ true) ⌝ }
     ensures { λ _. ⌜ FedStore (now (store .entry)) (now (store .exit)) desk (sampleOf sample) symbol ⌝ }
 {
     let many = store[USED] as usize;
     let body = &mut store[HEADER..];
     let count = feed_records(body, many, desk, sample, symbol, recent, sought);
+    note_at(store, desk, sample, symbol, count as u32);
+}
+
+// Writes an accepted feed that is not counted: the header alone.
+pub fn write_header(store: &mut [u32], desk: u32, sample: u32, symbol: u32)
+    requires { ⌜ Acceptable (now store) desk (sampleOf sample) symbol × (sample ≤ 1) × (isCounted (now store) desk (sampleOf sample) ≡ false) ⌝ }
+    ensures { λ _. ⌜ FedStore (now (store .entry)) (now (store .exit)) desk (sampleOf sample) symbol ⌝ }
+{
+    let many = store[USED];
+    note_at(store, desk, sample, symbol, many);
+}
+
+// Notes a feed at a desk, in the places of its sample.
+fn note_at(store: &mut [u32], desk: u32, sample: u32, symbol: u32, used: u32)
+    requires { ⌜ (desk < desks) × (sample ≤ 1) × (headerSize ≤ length (now store)) × (sizeAt (now store) desk (sampleOf sample) < longest) ⌝ }
+    ensures { λ _. ⌜ now (store .exit) ≡ noted used (deskStart desk + sizeField (sampleOf sample)) (deskStart desk + recentField (sampleOf sample)) symbol (now (store .entry)) ⌝ }
+{
     let start = FIRST_DESK + DESK_SIZE * desk as usize;
     let i = sample as usize;
     let size = start + (SIZE_FIRST + i);
     let slots = start + (RECENT_FIRST + SLOTS * i);
-    note(store, count as u32, size, slots, symbol);
+    note(store, used, size, slots, symbol);
 }
 
 // Notes a feed in the header: how many records there are, one more symbol in the sample, and the symbol first of the recent ones.

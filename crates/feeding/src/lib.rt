@@ -7,16 +7,18 @@ ghost use Rattle.store.specs.Sound.{soundb};
 ghost use Rattle.rules.specs.Rules.{feed};
 ghost use Rattle.calls.specs.Refusals.{outcomeOf, endingOf};
 ghost use Rattle.calls.specs.Promises.{Moves};
-ghost use Rattle.changes.specs.FedStore.{Judged, recentAt};
+ghost use Rattle.changes.specs.FedStore.{Judged, recentAt, isCounted};
 ghost use Rattle.calls.specs.Run.{Runs};
 use calls::Ending;
 use calls::Fed;
 use calls::Refusal;
 use calls::Verdict;
+use entering::is_counted;
 use entering::is_past;
 use entering::recent_of;
 use entering::seek_in;
 use entering::write_feed;
+use entering::write_header;
 use numbers::DESKS;
 use numbers::LONGEST;
 use soundness::sound;
@@ -97,9 +99,21 @@ fn feed_sound(store: &mut [u32], desk: u32, sample: u32, symbol: u32) -> Verdict
     feed_judged(store, desk, sample, symbol)
 }
 
-// What the other refusals left of a feed, after the symbols that it follows are copied.
+// What the other refusals left of a feed: where its place is not counted, the header alone is written.
 fn feed_judged(store: &mut [u32], desk: u32, sample: u32, symbol: u32) -> Verdict
     requires { ⌜ Judged (now store) desk sample symbol ⌝ }
+    ensures { λ r. ⌜ Moves (now (store .entry)) (atDesk desk (asking (feed sample symbol))) (outcomeOf r) (now (store .exit)) ⌝ }
+{
+    if is_counted(store, desk, sample) {
+        return feed_counted(store, desk, sample, symbol);
+    }
+    write_header(store, desk, sample, symbol);
+    Verdict::Done
+}
+
+// A feed that is counted, after the symbols that it follows are copied.
+fn feed_counted(store: &mut [u32], desk: u32, sample: u32, symbol: u32) -> Verdict
+    requires { ⌜ Judged (now store) desk sample symbol × (isCounted (now store) desk (sampleOf sample) ≡ true) ⌝ }
     ensures { λ r. ⌜ Moves (now (store .entry)) (atDesk desk (asking (feed sample symbol))) (outcomeOf r) (now (store .exit)) ⌝ }
 {
     let latest = recent_of(store, desk, sample);
@@ -108,9 +122,9 @@ fn feed_judged(store: &mut [u32], desk: u32, sample: u32, symbol: u32) -> Verdic
     feed_after(store, desk, sample, symbol, &symbols[..many])
 }
 
-// Refusal 10, or the feed of a symbol that follows `recent`.
+// Refusal 10, or the feed of a symbol that follows `recent` and is counted.
 fn feed_after(store: &mut [u32], desk: u32, sample: u32, symbol: u32, recent: &[u32]) -> Verdict
-    requires { ⌜ Judged (now store) desk sample symbol × (now recent ≡ recentAt (now store) desk (sampleOf sample)) ⌝ }
+    requires { ⌜ Judged (now store) desk sample symbol × (now recent ≡ recentAt (now store) desk (sampleOf sample)) × (isCounted (now store) desk (sampleOf sample) ≡ true) ⌝ }
     ensures { λ r. ⌜ Moves (now (store .entry)) (atDesk desk (asking (feed sample symbol))) (outcomeOf r) (now (store .exit)) ⌝ }
 {
     let sought = seek_in(store, desk, recent);

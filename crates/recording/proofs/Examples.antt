@@ -12,9 +12,9 @@ use Rattle.records.specs.Bumped.{cellOf, bumpedAt}
 use Rattle.records.specs.Fed.{fedTo, fed, fresh, missing}
 use Rattle.recording.specs.Counted.{withMissing}
 
--- after two symbols, and after all four
+-- after two symbols, the first of which is not counted (document 02, E3), and after all four
 half : List (List ℕ)
-half = fed 2 first 1 (0 ∷ []) (fed 2 first 0 [] [])
+half = fed 2 first 1 (0 ∷ []) []
 
 whole : List (List ℕ)
 whole = fed 2 first 1 (0 ∷ []) (fed 2 first 0 (1 ∷ []) half)
@@ -23,6 +23,11 @@ whole = fed 2 first 1 (0 ∷ []) (fed 2 first 0 (1 ∷ []) half)
 held-there : keys whole ≡ keyOf 2 [] ∷ keyOf 2 (0 ∷ []) ∷ keyOf 2 (1 ∷ []) ∷ []
 unfolding half whole fedTo bumpedAt digits
 held-there = refl
+
+-- the second symbol, the first that is counted, brings the contexts of every length
+second-both : missing 2 (0 ∷ []) [] ≡ 2
+unfolding digits held sum
+second-both = refl
 
 -- the third symbol brings the context 1
 third : missing 2 (1 ∷ []) half ≡ 1
@@ -34,7 +39,11 @@ third-added : withMissing 2 (1 ∷ []) 1 2 (cellOf first 0) (fedTo 1 2 first 0 (
 unfolding half fedTo bumpedAt digits fresh
 third-added = refl
 
--- 0 is followed by 1 twice, 1 by 0 once; the second sample has seen nothing
+-- the empty context has counted 0 once and 1 twice, as its children have together: 0 is followed by 1 twice, 1 by 0 once; the second sample has seen nothing
+counts-empty : countsOf first (lookup (keyOf 2 []) whole) ≡ 1 ∷ 2 ∷ 0 ∷ 0 ∷ 0 ∷ 0 ∷ 0 ∷ 0 ∷ []
+unfolding half whole fedTo bumpedAt digits lookup
+counts-empty = refl
+
 counts-first : countsOf first (lookup (keyOf 2 (0 ∷ [])) whole) ≡ 0 ∷ 2 ∷ 0 ∷ 0 ∷ 0 ∷ 0 ∷ 0 ∷ 0 ∷ []
 unfolding half whole fedTo bumpedAt digits lookup
 counts-first = refl

@@ -38,9 +38,6 @@ module _ (d : ℕ) (i : Sample) (a : ℕ) (r : List ℕ) where
   wide-fedTo zero rs w = w
   wide-fedTo (suc j) rs w = wide-bumped (keyOf d (take j r)) (cellOf i a) (fedTo j d i a r rs) (wide-fedTo j rs w)
 
-  pub wide-fed : (rs : List (List ℕ)) → Wide rs → Wide (fed d i a r rs)
-  wide-fed rs w = wide-fedTo (suc (length r)) rs w
-
 -- ---- what stands under a key, and which keys are held
 
 joined : (d b u v h : Bool) → ((d && (b && u)) || ((d && (b && v)) || h)) ≡ ((d && (b && (u || v))) || h)

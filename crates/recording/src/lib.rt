@@ -1,4 +1,4 @@
-// The records of a store written: one more for each context that a symbol follows, and none of a desk that closes.
+// The records of a store written: one more for each context that a counted symbol follows, and none of a desk that closes.
 ghost use mathlib.Core.Path.{_≡_};
 ghost use mathlib.Core.List.{_++_};
 ghost use Prim.Native.Nat.{_+_, _-_, _*_, _%_, _≤_, _<_};
@@ -36,7 +36,7 @@ pub fn remove_desk(numbers: &mut [u32], n: usize, desk: u32) -> usize
     n - gone
 }
 
-// A symbol is fed to a sample: each context that it follows gets one more. `recent` are the symbols before it, most recent first,
+// A symbol that is counted is fed to a sample: each context that it follows gets one more. `recent` are the symbols before it, most recent first,
 // and `sought` says where its contexts stand. Gives the number of records then. New records use up the numbers behind the `n` records.
 pub fn feed_records(
     numbers: &mut [u32],

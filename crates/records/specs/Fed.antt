@@ -1,4 +1,4 @@
--- What a fed symbol does to the records: every context that it follows gets one more count. Assumes nothing.
+-- What a fed symbol that is counted does to the records: every context that it follows gets one more count. Assumes nothing.
 use mathlib.Core.Bool.{not}
 use mathlib.Core.List.{List, [], _∷_, _++_}
 use Prim.Native.Nat.{ℕ, zero, suc, _+_, _*_, _≤_, _<_}
@@ -27,9 +27,13 @@ unfoldable pub fresh : ℕ → ℕ → ℕ → List ℕ → ℕ → List (List �
 fresh zero m d recent c = []
 fresh (suc q) m d recent c = fresh q m d recent c ++ (raised c (blank (keyOf d (take (m + q) recent))) ∷ [])
 
--- how many of these contexts no record has yet
+-- how many of the first j of these contexts no record has yet
+abbrev pub missingTo : ℕ → ℕ → List ℕ → List (List ℕ) → ℕ
+missingTo j d recent rs = sum j (λ i. one (not (held (keyOf d (take i recent)) rs)))
+
+-- .. of all of them
 abbrev pub missing : ℕ → List ℕ → List (List ℕ) → ℕ
-missing d recent rs = sum (suc (length recent)) (λ j. one (not (held (keyOf d (take j recent)) rs)))
+missing d recent rs = missingTo (suc (length recent)) d recent rs
 
 -- what looking for its contexts asks: n records in rising order, a desk, and recent symbols within the limits
 pub record Askable (d : ℕ) (recent : List ℕ) (n : ℕ) (l : List ℕ) : Type 0 where

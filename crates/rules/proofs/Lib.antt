@@ -1,3 +1,4 @@
 pub mod TrueCounts
 pub mod OwnReport
 pub mod Numbers
+pub mod SameActs

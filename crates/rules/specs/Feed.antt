@@ -11,15 +11,15 @@ use Rattle.contexts.specs.Sitting.{Sample, sampleOf, sameSample, Progress, sat,
 use Rattle.replay.specs.Room.{Opening}
 use Rattle.replay.specs.Table.{Line, _when_}
 
--- only places with so many symbols before them are counted: every place
+-- only places with at least so many symbols before them are counted: "only places from D+1 on, for every context of that sitting" (document 02, E3)
 abbrev pub countedFrom : Opening → ℕ
-countedFrom o = 0
+countedFrom o = o .depth
 
 -- "a desk opens with both samples empty"
 abbrev pub emptyProgress : Opening → Progress
 emptyProgress o = record { size = λ i. 0; recent = λ i. []; count = λ i s a. 0 }
 
--- the sitting after symbol a is fed to sample i: each context that a follows gets one more count of a
+-- the sitting after symbol a is fed to sample i: where its place is counted, each context that a follows gets one more count of a
 unfoldable pub afterFeed : Opening → Sample → ℕ → Progress → Progress
 afterFeed o i a p = record {
   size = λ j. p .size j + one (sameSample j i);

@@ -3,3 +3,4 @@ pub mod Report
 pub mod Question
 pub mod Rules
 pub mod Strings
+pub mod SameActs

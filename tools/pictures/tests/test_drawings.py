@@ -43,6 +43,12 @@ class Drawings(unittest.TestCase):
             with self.subTest(name):
                 yield name, *stored(name)
 
+    def test_the_stored_ones_count_what_a_report_counts(self):
+        """The rows of each tree together count the acts from D+1 on (request E3), a shared row those of both samples."""
+        for _, report, _ in self.each():
+            counted = sum(length - report.D for length in (report.n, report.m))
+            self.assertEqual(sum(row.total for row in report.rows), counted)
+
     def test_text_is_the_stored_one(self):
         for name, report, names in self.each():
             self.assertEqual(text.drawing(report, names), (STORED / f"{name}.drawing").read_text("utf-8"))
@@ -104,7 +110,7 @@ class Drawings(unittest.TestCase):
             picture = Path(folder, "picture.svg")
             words = [PICTURE, ALIKE, "--names", ACTS, "--svg", picture]
             drawn = subprocess.run(words, capture_output=True, text=True, check=True).stdout
-            self.assertTrue(drawn.startswith("A 3  D 2  n 60  m 60  rows 3  score -262410\n"))
+            self.assertTrue(drawn.startswith("A 3  D 2  n 60  m 60  rows 3  score -261226\n"))
             said = "drawn from the report of the independent second program (reference/), not of the proved program"
             self.assertTrue(drawn.endswith(f"\n\n{said}\n"))
             self.assertIn(said, picture.read_text("utf-8"))

@@ -1,5 +1,4 @@
 -- `entering::recent_of` meets its contract. Assumes nothing.
-use Prim.Native.Nat.{_+_}
 use native.Mathlib.Omega.{arith}
 use borrow.Author.Needs.{needs}
 use Rattle.store.proofs.Passing.{field-readable}
@@ -7,23 +6,11 @@ use Rattle.entering.proofs.Copying.{six-asked, copied}
 use Rattle.entering.proofs.recent_of.Statement.{statement}
 use Rattle.entering.proofs.recent_of.Tie as tie
 
-add-field-at : tie.Need-add-field-at
-add-field-at c = search needs
-
 field-at-requires : tie.Need-field-at-requires
 field-at-requires c κs =
     let start = c .before in
     let x = start .args in
-    field-readable (x .store .now) (start .pre .0) (x .desk) (start .pre .1 .desk) (4 + x .sample) (omega (arith, start .pre .2))
-
-field-at-requires-2 : tie.Need-field-at-requires-2
-field-at-requires-2 c κs =
-    let start = c .before .before in
-    let x = start .args in
     field-readable (x .store .now) (start .pre .0) (x .desk) (start .pre .1 .desk) 2 (omega arith)
-
-fewer-requires : tie.Need-fewer-requires
-fewer-requires c κs = search needs
 
 cast-many : tie.Need-cast-many
 cast-many c = search needs
@@ -45,28 +32,22 @@ add-six-from-3 c = search needs
 
 six-from-requires : tie.Need-six-from-requires
 six-from-requires c κs =
-    let start = c .before .before .before .before in
+    let start = c .before .before in
     let x = start .args in
     six-asked (x .store .now) (x .desk) (x .sample) (start .pre .0) (start .pre .1) (start .pre .2)
 
 returns : tie.Need-returns
 returns c =
-    let size = c .before .before .before .field-at in
-    let depth = c .before .before .field-at2 in
-    let many = c .before .fewer in
-    let start = c .before .before .before .before .before in
+    let depth = c .before .field-at in
+    let start = c .before .before .before in
     let x = start .args in
-    copied (x .store .now) (x .desk) (x .sample) (start .pre .0) (start .pre .1) (start .pre .2) (size .result) (depth .result) (many .result) (c .six-from .result)
-    (size .ensures) (depth .ensures) (many .ensures) (c .six-from .ensures)
+    copied (x .store .now) (x .desk) (x .sample) (start .pre .0) (start .pre .1) (start .pre .2) (depth .result) (c .six-from .result) (depth .ensures) (c .six-from .ensures)
 
 pub recent-of-spec : {M : Type 1} → statement M
 recent-of-spec =
     tie.close
     (tie.spec
-    add-field-at
     field-at-requires
-    field-at-requires-2
-    fewer-requires
     cast-many
     mul-six-from
     add-six-from

@@ -25,42 +25,21 @@ feed-records-requires : tie.Need-feed-records-requires
 feed-records-requires c κs =
     let start = c .before .before .before .before in
     let x = start .args in
-    lent-ready (x .store .now) (x .desk) (x .sample) (x .symbol) (start .pre .0) (start .pre .1) (x .recent .now) (start .pre .2) (x .sought .found) (x .sought .places) (start .pre .3)
+    lent-ready (x .store .now) (x .desk) (x .sample) (x .symbol) (start .pre .0) (start .pre .1) (x .recent .now) (start .pre .2) (start .pre .4) (x .sought .found) (x .sought .places) (start .pre .3)
 
-mul-start : tie.Need-mul-start
-mul-start c = search needs
-
-add-start : tie.Need-add-start
-add-start c = search needs
-
-add-size : tie.Need-add-size
-add-size c = search needs
-
-add-size-2 : tie.Need-add-size-2
-add-size-2 c = search needs
-
-mul-slots : tie.Need-mul-slots
-mul-slots c = search needs
-
-add-slots : tie.Need-add-slots
-add-slots c = search needs
-
-add-slots-2 : tie.Need-add-slots-2
-add-slots-2 c = search needs
-
-cast-note : tie.Need-cast-note
-cast-note c =
+cast-note-at : tie.Need-cast-note-at
+cast-note-at c =
     let start = c .before .before .before .before .before .before .before .before in
     let x = start .args in
     let fed = c .before .before .before .feed-records in
-    omega (arith, count-fits (x .store .now) (x .desk) (x .sample) (x .symbol) (start .pre .0) (start .pre .1) (x .recent .now) (start .pre .2) (fed .result) (fed .last .0) (search needs) (fed .ensures))
+    omega (arith, count-fits (x .store .now) (x .desk) (x .sample) (x .symbol) (start .pre .0) (start .pre .1) (x .recent .now) (start .pre .2) (start .pre .4) (fed .result) (fed .last .0) (search needs) (fed .ensures))
 
-note-requires : tie.Need-note-requires
-note-requires c κs =
+note-at-requires : tie.Need-note-at-requires
+note-at-requires c κs =
     let start = c .before .before .before .before .before .before .before .before in
     let x = start .args in
     let fed = c .before .before .before .feed-records in
-    note-asks (x .store .now) (x .desk) (x .sample) (x .symbol) (start .pre .0) (start .pre .1) (x .recent .now) (start .pre .2) (fed .result) (fed .last .0) (search needs) (fed .ensures)
+    note-asks (x .store .now) (x .desk) (x .sample) (x .symbol) (start .pre .0) (start .pre .1) (x .recent .now) (start .pre .2) (start .pre .4) (fed .result) (fed .last .0) (search needs) (fed .ensures)
 
 same-length : tie.Need-same-length
 same-length c = search needs
@@ -70,8 +49,8 @@ returns c =
     let start = c .before .before .before .before .before .before .before .before .before .before .before in
     let x = start .args in
     let fed = c .before .before .before .before .before .before .feed-records in
-    let noted = c .before .before .note in
-    written (x .store .now) (x .desk) (x .sample) (x .symbol) (start .pre .0) (start .pre .1) (x .recent .now) (start .pre .2) (fed .result) (fed .last .0) (search needs) (fed .ensures) (noted .last .0) (noted .ensures)
+    let noted = c .before .before .note-at in
+    written (x .store .now) (x .desk) (x .sample) (x .symbol) (start .pre .0) (start .pre .1) (x .recent .now) (start .pre .2) (start .pre .4) (fed .result) (fed .last .0) (search needs) (fed .ensures) (noted .last .0) (noted .ensures)
 
 pub write-feed-spec : {M : Type 1} → statement M
 write-feed-spec =
@@ -83,14 +62,7 @@ write-feed-spec =
     part-body-start
     part-body-end
     feed-records-requires
-    mul-start
-    add-start
-    add-size
-    add-size-2
-    mul-slots
-    add-slots
-    add-slots-2
-    cast-note
-    note-requires
+    cast-note-at
+    note-at-requires
     same-length
     returns)

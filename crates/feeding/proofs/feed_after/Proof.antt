@@ -8,14 +8,14 @@ seek-in-requires : tie.Need-seek-in-requires
 seek-in-requires c κs =
     let start = c .before .before .before in
     let x = start .args in
-    then-asks (x .store .now) (x .desk) (x .sample) (x .symbol) (start .pre .0) (x .recent .now) (start .pre .1)
+    then-asks (x .store .now) (x .desk) (x .sample) (x .symbol) (start .pre .0) (x .recent .now) (start .pre .1) (start .pre .2)
 
 is-past-requires : tie.Need-is-past-requires
 is-past-requires c κs =
     let sought = c .before in
     let start = sought .before .before .before .before in
     let x = start .args in
-    found (x .store .now) (x .desk) (x .sample) (x .symbol) (start .pre .0) (x .recent .now) (start .pre .1) (sought .seek-in .result .found) (sought .seek-in .result .places) (sought .seek-in .ensures .located)
+    found (x .store .now) (x .desk) (x .sample) (x .symbol) (start .pre .0) (x .recent .now) (start .pre .1) (start .pre .2) (sought .seek-in .result .found) (sought .seek-in .result .places) (sought .seek-in .ensures .located)
 
 same-length : tie.Need-same-length
 same-length c = search needs
@@ -26,7 +26,7 @@ returns c =
     let sought = past .before .before in
     let start = sought .before .before .before .before in
     let x = start .args in
-    refused-past (x .store .now) (x .desk) (x .sample) (x .symbol) (start .pre .0) (x .recent .now) (start .pre .1) (sought .seek-in .result .found) (sought .seek-in .result .places) (sought .seek-in .ensures .located)
+    refused-past (x .store .now) (x .desk) (x .sample) (x .symbol) (start .pre .0) (x .recent .now) (start .pre .1) (start .pre .2) (sought .seek-in .result .found) (sought .seek-in .result .places) (sought .seek-in .ensures .located)
     (past .is-past .result) (past .is-past .ensures) (c .if1 .taken)
 
 write-feed-requires : tie.Need-write-feed-requires
@@ -36,7 +36,7 @@ write-feed-requires c κs =
     let sought = past .before .before in
     let start = sought .before .before .before .before in
     let x = start .args in
-    write-asks (x .store .now) (x .desk) (x .sample) (x .symbol) (start .pre .0) (x .recent .now) (start .pre .1) (sought .seek-in .result .found) (sought .seek-in .result .places) (sought .seek-in .ensures .located)
+    write-asks (x .store .now) (x .desk) (x .sample) (x .symbol) (start .pre .0) (x .recent .now) (start .pre .1) (start .pre .2) (sought .seek-in .result .found) (sought .seek-in .result .places) (sought .seek-in .ensures .located)
     (past .is-past .result) (past .is-past .ensures) (else .if1 .left)
 
 same-length-2 : tie.Need-same-length-2
@@ -50,7 +50,7 @@ returns-2 c =
     let sought = past .before .before in
     let start = sought .before .before .before .before in
     let x = start .args in
-    fed-kept (x .store .now) (x .desk) (x .sample) (x .symbol) (start .pre .0) (x .recent .now) (start .pre .1) (sought .seek-in .result .found) (sought .seek-in .result .places) (sought .seek-in .ensures .located)
+    fed-kept (x .store .now) (x .desk) (x .sample) (x .symbol) (start .pre .0) (x .recent .now) (start .pre .1) (start .pre .2) (sought .seek-in .result .found) (sought .seek-in .result .places) (sought .seek-in .ensures .located)
     (past .is-past .result) (past .is-past .ensures) (else .if1 .left) (wrote .last .0) (wrote .ensures)
 
 pub feed-after-spec : {M : Type 1} → statement M

@@ -1,39 +1,17 @@
--- `feeding::feed_judged` meets its contract: what was copied is as long as it says. Assumes nothing.
-use mathlib.Core.Path.{_≡_, sym}
-use Prim.Native.Nat.{_≤_}
-use lib.ListN.{length, take}
-use lib.Seq.{length-take-le}
+-- `feeding::feed_judged` meets its contract: the header alone is written where the place is not counted. Assumes nothing.
+use mathlib.Core.Path.{sym, _∙_}
 use borrow.Author.Needs.{needs}
-use Rattle.contexts.specs.Sitting.{sampleOf}
-use Rattle.changes.specs.FedStore.{recentAt}
-use Rattle.entering.proofs.Copying.{copied-recent}
+use Rattle.feeding.proofs.Answering.{header-asks, header-kept}
 use Rattle.feeding.proofs.feed_judged.Statement.{statement}
 use Rattle.feeding.proofs.feed_judged.Tie as tie
 
-recent-of-requires : tie.Need-recent-of-requires
-recent-of-requires c κs = search needs
+is-counted-requires : tie.Need-is-counted-requires
+is-counted-requires c κs = search needs
 
--- the first `many` of the six places are the recent symbols
-latest : (c : tie.After-recent-of) → (let r = c .recent-of .result in let x = c .before .before .before .args in
-    (r .many ≤ length (r .symbols)) × (take (r .many) (r .symbols) ≡ recentAt (x .store .now) (x .desk) (sampleOf (x .sample))))
-latest c =
-    let r = c .recent-of .result in
-    let start = c .before .before .before in
-    let x = start .args in
-    copied-recent (x .store .now) (x .desk) (x .sample) (start .pre .sound) (start .pre .at-open) (start .pre .of-samples) (r .many) (r .symbols) (c .recent-of .ensures)
-
-array-share-prefix-symbols : tie.Need-array-share-prefix-symbols
-array-share-prefix-symbols c = latest (c .before .before) .0
-
-slice-aggregate-feed-after : tie.Need-slice-aggregate-feed-after
-slice-aggregate-feed-after c =
-    let copied = c .before .before .before in
-    sym (length-take-le (copied .recent-of .result .many) (copied .recent-of .result .symbols) (latest copied .0))
-
-feed-after-requires : tie.Need-feed-after-requires
-feed-after-requires c κs =
-    let copied = c .before .before .before in
-    (copied .before .before .before .pre, latest copied .1)
+feed-counted-requires : tie.Need-feed-counted-requires
+feed-counted-requires c κs =
+    let judged = c .before .before in
+    (judged .before .before .before .pre, sym (judged .is-counted .ensures) ∙ c .before .if1 .taken)
 
 same-length : tie.Need-same-length
 same-length c = search needs
@@ -41,13 +19,32 @@ same-length c = search needs
 returns : tie.Need-returns
 returns c = search needs
 
+write-header-requires : tie.Need-write-header-requires
+write-header-requires c κs =
+    let else = c .before in
+    let start = else .before .before .before .before in
+    let x = start .args in
+    header-asks (x .store .now) (x .desk) (x .sample) (x .symbol) (start .pre) (sym (else .before .is-counted .ensures) ∙ else .if1 .left)
+
+same-length-2 : tie.Need-same-length-2
+same-length-2 c = search needs
+
+returns-2 : tie.Need-returns-2
+returns-2 c =
+    let wrote = c .before .before .write-header in
+    let else = c .before .before .before .before in
+    let start = else .before .before .before .before in
+    let x = start .args in
+    header-kept (x .store .now) (x .desk) (x .sample) (x .symbol) (start .pre) (sym (else .before .is-counted .ensures) ∙ else .if1 .left) (wrote .last .0) (wrote .ensures)
+
 pub feed-judged-spec : {M : Type 1} → statement M
 feed-judged-spec =
     tie.close
     (tie.spec
-    recent-of-requires
-    array-share-prefix-symbols
-    slice-aggregate-feed-after
-    feed-after-requires
+    is-counted-requires
+    feed-counted-requires
     same-length
-    returns)
+    returns
+    write-header-requires
+    same-length-2
+    returns-2)
