@@ -1,9 +1,10 @@
 // Each call of this library by the same call of another build of it, timed in turn.
 #include "side.h"
 #include <stdio.h>
-#include <string.h>
 
 enum { QUICK = 1000, SLOW = 15 };
+
+static int same_report(answer a, answer b) { return a.rows == b.rows && a.score == b.score && a.sum == b.sum; }
 
 int main(int words, char **word) {
     job now[CASES], before[CASES];
@@ -13,8 +14,9 @@ int main(int words, char **word) {
     side_before(before, of_before);
     for (int k = 0; k < SHAPES; k++) {
         shape s = shapes[k];
-        note("A %u, D %u, %u contexts, %u rows; before it: %s", s.alphabet, s.depth, of_now[k].contexts, of_now[k].rows,
-             memcmp(&of_now[k], &of_before[k], sizeof(answer)) == 0 ? "the same rows and score" : "ANOTHER REPORT");
+        note("A %u, D %u, %u contexts, %u rows; before it %u and %u: %s", s.alphabet, s.depth, of_now[k].contexts, of_now[k].rows,
+             of_before[k].contexts, of_before[k].rows,
+             same_report(of_now[k], of_before[k]) ? "the same rows and score" : "ANOTHER REPORT");
         for (int i = 0; i < CALLS; i++) {
             job pair[] = {now[CALLS * k + i], before[CALLS * k + i]};
             race_or_count(pair, 2, i < 3 ? QUICK : SLOW);

@@ -1,5 +1,5 @@
 // Sittings of 2,048 + 2,048 symbols beside those of the first 512 of each string: feeding for each symbol, report and soundness test for each
-// context. Rows and score must be those of plain C. LONGER contexts only says how many contexts the two sittings of each shape have.
+// context. Contexts held, rows and score must be those of plain C. LONGER contexts only says how many contexts the two sittings of each shape have.
 #include "plain.h"
 #include "sobumikeyo.h"
 #include "timing.h"
@@ -53,9 +53,12 @@ static void test(void *with) {
     sink += sobumikeyo_sound(at->store, LEN);
 }
 
+static uint32_t contexts(const sitting *at) { return at->store[1]; }
+
 static void agree(const sitting *at) {
     plain_start(&twin, at->s.alphabet, at->s.depth);
     for (uint32_t i = 0; i < 2; i++) plain_feed_all(&twin, i, text[i], at->many);
+    must(contexts(at) == plain_held(&twin), "contexts held as in plain C");
     must(plain_report(&twin, plain_sheet, &plain_score) == rows && plain_score == score, "row count and score as in plain C");
     must(memcmp(sheet, plain_sheet, rows * SOBUMIKEYO_ROW_WIDTH * sizeof *sheet) == 0, "rows as in plain C");
 }
@@ -72,8 +75,6 @@ static void seat(sitting *at, shape s, uint32_t many) {
     at->rows = rows;
     agree(at);
 }
-
-static uint32_t contexts(const sitting *at) { return at->store[1]; }
 
 // How many times as long the first job takes as the second, for each of the things that they have so many of.
 static double for_each(const job *jobs, uint32_t first, uint32_t second) { return jobs[0].ns / first / (jobs[1].ns / second); }

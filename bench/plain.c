@@ -28,19 +28,23 @@ static uint32_t child_of(trie *t, uint32_t at, uint8_t symbol) {
     return t->nodes[at].child[symbol] = child;
 }
 
+// A place counts once D symbols stand before it, and then for the D+1 contexts that they end in.
 void plain_feed_all(trie *t, uint32_t sample, const uint8_t *symbols, uint32_t many) {
     uint8_t *text = t->text[sample];
     for (uint32_t i = 0; i < many; i++) {
         uint32_t size = t->size[sample]++, at = ROOT;
-        uint32_t deep = size < t->depth ? size : t->depth;
+        text[size] = symbols[i];
+        if (size < t->depth) continue;
         t->nodes[ROOT].count[sample][symbols[i]]++;
-        for (uint32_t j = 1; j <= deep; j++) {
+        for (uint32_t j = 1; j <= t->depth; j++) {
             at = child_of(t, at, text[size - j]);
             t->nodes[at].count[sample][symbols[i]]++;
         }
-        text[size] = symbols[i];
     }
 }
+
+// The root is there from the start, and seen with the first place that counts.
+uint32_t plain_held(const trie *t) { return t->size[0] > t->depth || t->size[1] > t->depth ? t->used : 0; }
 
 // ---- the report
 

@@ -28,6 +28,8 @@ typedef struct {
 
 void plain_start(trie *t, uint32_t alphabet, uint32_t depth);
 void plain_feed_all(trie *t, uint32_t sample, const uint8_t *symbols, uint32_t many);
+// How many contexts the sitting holds: those seen at a place from D+1 on.
+uint32_t plain_held(const trie *t);
 // Writes the rows at the beginning of the sheet; answers how many.
 uint32_t plain_report(trie *t, uint32_t *sheet, int64_t *score);
 // Which samples saw a context (1 the first, 2 the second, 3 both), and a symbol's shares in it and their difference.

@@ -14,7 +14,7 @@ enum { SHAPES = 6, CALLS = 4, CASES = SHAPES * CALLS };
 static const shape shapes[SHAPES] = {{4, 4, 4, 4}, {8, 6, 8, 100}, {8, 6, 8, 1}, {2, 6, 2, 4}, {4, 4, 4, 32}, {8, 6, 3, 64}};
 static const char *const calls[CALLS] = {"report", "soundness test", "feed_all", "feeds one by one"};
 
-// What a report answered: row count, score, and a sum over its rows.
+// The contexts that the sitting holds, and what its report answered: row count, score, and a sum over its rows.
 typedef struct {
     uint32_t contexts, rows;
     int64_t score;

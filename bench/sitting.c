@@ -95,6 +95,7 @@ static void charts_agree(void) {
 
 static void agree(void) {
     begin(0), feed_runs(0), plain_begin(0), plain_feed(0), report(0), plain(0);
+    must(store[1] == plain_held(&twin), "contexts held as in plain C");
     must(rows == plain_rows && score == plain_score, "row count and score as in plain C");
     must(memcmp(sheet, plain_sheet, rows * 11 * sizeof *sheet) == 0, "rows as in plain C");
     charts_agree();
