@@ -20,7 +20,7 @@ use Rattle.rules.specs.Feed.{countedFrom}
 abbrev pub recentAt : List ℕ → ℕ → Sample → List ℕ
 recentAt s d i = take (min (sizeAt s d i) (depthAt s d)) (slotsAt s d i)
 
--- whether the next symbol of a sample is counted: its place has D symbols before it
+-- whether the next symbol of a sample is counted: its place has at least D symbols before it
 abbrev pub isCounted : List ℕ → ℕ → Sample → Bool
 isCounted s d i = leb (countedFrom (openingAt s d)) (sizeAt s d i)
 

@@ -39,7 +39,7 @@ pub struct Latest {
     pub many: usize,
 }
 
-// Whether the next symbol of a sample is counted: only a place with D symbols before it is.
+// Whether the next symbol of a sample is counted: only a place with at least D symbols before it is.
 pub fn is_counted(store: &[u32], desk: u32, sample: u32) -> bool
     requires { ⌜ (soundb (now store) ≡ true) × Open (now store) desk × (sample ≤ 1) ⌝ }
     ensures { λ r. ⌜ r ≡ isCounted (now (store .entry)) desk (sampleOf sample) ⌝ }
