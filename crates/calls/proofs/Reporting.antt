@@ -2,7 +2,7 @@
 use Prim.Native.Nat.{ℕ, _+_, _*_, _/_, _≤_, _<_}
 use native.Mathlib.Omega.{arith}
 use mathlib.Core.Path.{_≡_, refl, ap, subst, _∙_}
-use mathlib.Core.Bool.{true, false}
+use mathlib.Core.Bool.{true, false, cond}
 use mathlib.Core.List.{List, [], _∷_, _++_}
 use lib.ListN.{length, take, drop, length-append}
 use lib.Seq.{drop-at, drop-drop, length-take-le}
@@ -16,9 +16,10 @@ use Rattle.replay.specs.Table.{refused, answered, verdictOf}
 use Rattle.replay.specs.Machine.{asking, Call, atDesk, ownLines, askingTable, tableAt, tableOf, answerAt, answerOf, verdict}
 use Rattle.store.specs.Sound.{soundb}
 use Rattle.store.specs.Meaning.{meaning}
-use Rattle.rules.specs.Report.{Reported, report}
+use Rattle.rules.specs.Report.{Reported, report, doesNotFit}
 use Rattle.rules.specs.Rules as sitting
 use Rattle.rules.specs.Rules.{reporting, reported, rules}
+use Rattle.rules.proofs.Short.{too-short, long-enough}
 use Rattle.calls.specs.Promises.{Asks, withRows, Reports}
 use Rattle.calls.proofs.Keeping.{asks-unsound, asks-answered}
 
@@ -45,17 +46,29 @@ module _ (ρ : Room Progress) (d sheet place : ℕ) where
     unfolding verdict verdictOf tableOf tableAt askingTable ownLines sitting.linesOf
     second-empty n z = rw (lt-leb desks d l, e, ne-eqb (p .size first) 0 n, eq-eqb (p .size second) 0 z)
 
-    module _ (n : p .size first ≡ 0 → ⊥) (m : p .size second ≡ 0 → ⊥) where
-      pub sheet-short : sheet / rowWidth < place + length (reportOf (sat (o .symbols) (o .depth) p)) → verdict rules ρ (asked d sheet place) ≡ refused 12
-      unfolding verdict verdictOf tableOf tableAt askingTable ownLines sitting.linesOf
-      sheet-short h =
-          rw (lt-leb desks d l, e, ne-eqb (p .size first) 0 n, ne-eqb (p .size second) 0 m, lt-ltb (sheet / rowWidth) (place + length (reportOf (sat (o .symbols) (o .depth) p))) h)
+    pub first-short : 0 < p .size first → 0 < p .size second → p .size first ≤ o .depth → verdict rules ρ (asked d sheet place) ≡ refused 24
+    unfolding verdict verdictOf tableOf tableAt askingTable ownLines sitting.linesOf
+    first-short n m h = rw (lt-leb desks d l, e, ne-eqb (p .size first) 0 (λ z. omega arith), ne-eqb (p .size second) 0 (λ z. omega arith), too-short o (p .size first) n h)
 
-      pub rows-told : place + length (reportOf (sat (o .symbols) (o .depth) p)) ≤ sheet / rowWidth
-          → verdict rules ρ (asked d sheet place) ≡ answered (reported (report (sat (o .symbols) (o .depth) p)))
-      unfolding verdict verdictOf tableOf tableAt askingTable ownLines answerOf answerAt sitting.linesOf sitting.askAnswer
-      rows-told h =
-          rw (lt-leb desks d l, e, ne-eqb (p .size first) 0 n, ne-eqb (p .size second) 0 m, le-ltb (sheet / rowWidth) (place + length (reportOf (sat (o .symbols) (o .depth) p))) h)
+    module _ (n : o .depth < p .size first) where
+      pub second-short : 0 < p .size second → p .size second ≤ o .depth → verdict rules ρ (asked d sheet place) ≡ refused 24
+      unfolding verdict verdictOf tableOf tableAt askingTable ownLines sitting.linesOf
+      second-short m h =
+          rw (lt-leb desks d l, e, ne-eqb (p .size first) 0 (λ z. omega arith), ne-eqb (p .size second) 0 (λ z. omega arith), long-enough o (p .size first) n, too-short o (p .size second) m h)
+
+      module _ (m : o .depth < p .size second) where
+        -- both samples are long enough: what is left is the sheet
+        by-sheet : verdict rules ρ (asked d sheet place) ≡ cond (doesNotFit sheet place (sat (o .symbols) (o .depth) p)) (refused 12) (answered (reported (report (sat (o .symbols) (o .depth) p))))
+        unfolding verdict verdictOf tableOf tableAt askingTable ownLines answerOf answerAt sitting.linesOf sitting.askAnswer
+        by-sheet =
+            rw (lt-leb desks d l, e, ne-eqb (p .size first) 0 (λ z. omega arith), ne-eqb (p .size second) 0 (λ z. omega arith), long-enough o (p .size first) n, long-enough o (p .size second) m)
+
+        pub sheet-short : sheet / rowWidth < place + length (reportOf (sat (o .symbols) (o .depth) p)) → verdict rules ρ (asked d sheet place) ≡ refused 12
+        sheet-short h = by-sheet ∙ rw (lt-ltb (sheet / rowWidth) (place + length (reportOf (sat (o .symbols) (o .depth) p))) h)
+
+        pub rows-told : place + length (reportOf (sat (o .symbols) (o .depth) p)) ≤ sheet / rowWidth
+            → verdict rules ρ (asked d sheet place) ≡ answered (reported (report (sat (o .symbols) (o .depth) p)))
+        rows-told h = by-sheet ∙ rw (le-ltb (sheet / rowWidth) (place + length (reportOf (sat (o .symbols) (o .depth) p))) h)
 
 -- ---- the promise
 

@@ -1,4 +1,4 @@
--- Document 01's number of each refusal, and what each answer of the code says in the room's machine. Assumes nothing.
+-- The documents' number of each refusal, and what each answer of the code says in the room's machine. Assumes nothing.
 use Prim.Native.Nat.{ℕ, _*_}
 use mathlib.Core.List.{List}
 use lib.ListN.{drop}
@@ -7,7 +7,7 @@ use Rattle.numbers.specs.Limits.{rowWidth}
 use Rattle.rows.specs.Rows.{readRows}
 use Rattle.rules.specs.Rules.{Answer, done, contextsLeft, reported, point}
 use Rattle.calls.specs.declared.Refusal.{Refusal}
-use Rattle.calls.specs.declared.Refusal.the-variants.{Unsound, NoSuchDesk, AlreadyOpen, NotOpen, OutsideLimits, BadReservation, NoRoom, NotOfSitting, SampleFull, PastReservation, SampleEmpty, SheetShort}
+use Rattle.calls.specs.declared.Refusal.the-variants.{Unsound, NoSuchDesk, AlreadyOpen, NotOpen, OutsideLimits, BadReservation, NoRoom, NotOfSitting, SampleFull, PastReservation, SampleEmpty, SheetShort, SampleShort}
 use Rattle.calls.specs.declared.Verdict.{Verdict}
 use Rattle.calls.specs.declared.Verdict.the-variants as verdict
 use Rattle.calls.specs.declared.RoomLeft.{RoomLeft}
@@ -32,6 +32,7 @@ refusalNumber SampleFull = 9
 refusalNumber PastReservation = 10
 refusalNumber SampleEmpty = 11
 refusalNumber SheetShort = 12
+refusalNumber SampleShort = 24
 
 -- "answers only that it was done", or the refusal's number alone
 abbrev pub outcomeOf : Verdict → Outcome Answer

@@ -3,7 +3,7 @@ ghost use mathlib.Core.Path.{_≡_};
 ghost use Rattle.calls.specs.Refusals.{refusalNumber};
 use chart::Chart;
 
-// The refusals of document 01's table that a call at a store can get.
+// The refusals of documents 01 and 02 that a call at a store can get.
 pub enum Refusal {
     Unsound,
     NoSuchDesk,
@@ -17,6 +17,7 @@ pub enum Refusal {
     PastReservation,
     SampleEmpty,
     SheetShort,
+    SampleShort,
 }
 
 // The answer of an opening, a feed or a closing.
@@ -55,7 +56,7 @@ pub struct Fed {
     pub ending: Ending,
 }
 
-// A refusal's number in document 01's table.
+// A refusal's number in the documents.
 pub fn number_of(why: Refusal) -> u32
     ensures { λ r. ⌜ r ≡ refusalNumber why ⌝ }
 {
@@ -72,5 +73,6 @@ pub fn number_of(why: Refusal) -> u32
         Refusal::PastReservation => 10,
         Refusal::SampleEmpty => 11,
         Refusal::SheetShort => 12,
+        Refusal::SampleShort => 24,
     }
 }

@@ -2,13 +2,11 @@
 use Prim.Native.Nat.{ℕ}
 use mathlib.Core.Path.{_≡_, refl, sym, ap, _∙_}
 use mathlib.Core.Bool.{Bool, true, false, cond, not}
-use mathlib.Core.List.{List}
+use mathlib.Core.List.{List, _∷_}
 use lib.ListN.{length}
-use Rattle.numbers.proofs.Tests.{of-true}
-use Rattle.replay.specs.Table.{Outcome, refused, answered, verdictOf, inOrder}
+use Rattle.replay.specs.Table.{Outcome, refused, answered, verdictOf}
 use Rattle.replay.specs.Machine.{opening, asking, closing, Call, atDesk, roomQuestion, tableOf, answerOf, verdict}
 use Rattle.replay.proofs.Tables.{no-refusal, none-answers, answers-none, refused-exactly, answered-exactly}
-use Rattle.replay.proofs.Refusals.{tables-rise}
 use Rattle.writing.specs.Writing.{fileOf, writingLines, WritesFile}
 use Rattle.salvage.specs.Salvage.{Saved, salvageLines, Salvages}
 use Rattle.salvage.proofs.Refusing.{by-lines, as-the-reader}
@@ -19,7 +17,7 @@ use Rattle.store.specs.declared.Made.the-variants.{Done, RoomOutside, StoreShor
 use Rattle.store.specs.Sound.{soundb}
 use Rattle.store.specs.Meaning.{meaning}
 use Rattle.rules.specs.Rules.{Answer, done, feed, reporting, charting, rules}
-use Rattle.rules.proofs.Numbers.{lines-rise}
+use Rattle.rules.proofs.Numbers.{in-order}
 use Rattle.demands.specs.Runs.{Does}
 use Rattle.demands.specs.Demands.{tableOn, Demand1, Demand1Sheet, makingTable, makingOf, Demand1Making, Demand1Writing, Demand1Salvage}
 use Rattle.demands.proofs.Contracts.{answers}
@@ -51,13 +49,12 @@ by-table σ τ c o m = go (soundb σ) refl
     go false e = rw e (unsound σ τ c o e m)
 
 pub demand-1 : (σ τ : List ℕ) (c : Call rules) (o : Outcome Answer) → Does σ c o τ → Demand1 σ c o τ
-unfolding inOrder
 demand-1 σ τ c o m =
     let e = by-table σ τ c o m in
     record {
       refused-exactly = λ n. rw e (refused-exactly (tableOn σ c) (answerOf rules (meaning σ) c) n);
       answered-exactly = rw e (answered-exactly (tableOn σ c) (answerOf rules (meaning σ) c));
-      numbers-rise = tables-rise rules (λ o p q. of-true _ (lines-rise o p q)) (meaning σ) c;
+      in-order = ap (1 ∷_) (in-order (meaning σ) c);
       refused-stays = λ n r. stays σ τ c o n r m;
     }
 
@@ -80,17 +77,17 @@ demand-1-making K σ τ m makes =
     record {
       refused-exactly = λ n. rw e (refused-exactly (makingTable K (length σ)) done n);
       made-exactly = rw e (answered-exactly (makingTable K (length σ)) done);
+      in-order = refl;
       refused-stays = λ n r. makes .refused-kept (λ f. no-refusal (ap makingOf f) r);
     }
 
 pub demand-1-writing : (A D : ℕ) (xs ys before after : List ℕ) (o : Outcome ℕ) → WritesFile A D xs ys before o after → Demand1Writing A D xs ys before o after
-unfolding inOrder
 demand-1-writing A D xs ys before after o w =
     let lines = writingLines A D xs ys (length before) in
     record {
       refused-exactly = λ n. rw (w .answers) (refused-exactly lines (length (fileOf A D xs ys)) n);
       written-exactly = rw (w .answers) (answered-exactly lines (length (fileOf A D xs ys)));
-      numbers-rise = tt;
+      in-order = refl;
       refused-stays = w .refused-stays;
     }
 
@@ -102,6 +99,7 @@ demand-1-salvage damaged before after o w =
     record {
       refused-exactly = λ n. rw e (refused-exactly lines (t .0) n);
       saved-exactly = (λ a. answers-none lines (t .0) (a .0) (sym e ∙ a .1) .0, λ h. (t .0, e ∙ none-answers lines (t .0) h));
+      in-order = λ shape at q. rw q refl;
       as-the-reader = as-the-reader damaged before after o w;
       refused-stays = w .refused-stays;
     }

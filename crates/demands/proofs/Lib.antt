@@ -12,3 +12,4 @@ pub mod Charts
 pub mod Program
 pub mod Possible
 pub mod Replays
+pub mod Short

@@ -22,7 +22,7 @@ use Rattle.rules.specs.Rules.{Answer, feed, reporting, charting, reported, rule
 use Rattle.calls.specs.Promises.{Reports, withRows}
 use Rattle.calls.specs.Refusals.{refusalNumber}
 use Rattle.calls.specs.declared.Refusal.{Refusal}
-use Rattle.calls.specs.declared.Refusal.the-variants.{Unsound, NoSuchDesk, NotOpen, SampleEmpty, SheetShort}
+use Rattle.calls.specs.declared.Refusal.the-variants.{Unsound, NoSuchDesk, NotOpen, SampleEmpty, SheetShort, SampleShort}
 use Rattle.calls.specs.declared.ReportAnswer.the-variants.{Rows, Refused}
 use Rattle.calls.proofs.Keeping.{asks-unsound, asks-answered}
 use Rattle.calls.proofs.Reporting as table
@@ -60,7 +60,7 @@ module _ (σ : List ℕ) (d sheet place : ℕ) where
     refuses : (why : Refusal) → verdict rules (meaning σ) (atDesk d (asking (reporting (length blank) place))) ≡ refused (refusalNumber why) → CanDo σ (atDesk d (asking (reporting sheet place)))
     refuses why v = told why (table.reports-refused σ d place blank (refusalNumber why) h v)
 
-    module _ (o : Opening) (p : Progress) (near : d < desks) (e : meaning σ .at d ≡ opened o p) (n : p .size first ≡ 0 → ⊥) (m : p .size second ≡ 0 → ⊥) where
+    module _ (o : Opening) (p : Progress) (near : d < desks) (e : meaning σ .at d ≡ opened o p) (n : o .depth < p .size first) (m : o .depth < p .size second) where
       abbrev x : Sitting
       x = sat (o .symbols) (o .depth) p
 
@@ -85,18 +85,28 @@ module _ (σ : List ℕ) (d sheet place : ℕ) where
             words = λ w. w;
           }
 
-      both-fed : CanDo σ (atDesk d (asking (reporting sheet place)))
-      both-fed = elim (decLe (place + length (reportOf x)) (length blank / rowWidth)) [
+      both-long : CanDo σ (atDesk d (asking (reporting sheet place)))
+      both-long = elim (decLe (place + length (reportOf x)) (length blank / rowWidth)) [
         | yes fits ↦ rows fits
         | no far ↦ refuses SheetShort (table.sheet-short (meaning σ) d (length blank) place o p near e n m (omega arith))
       ]
+
+    -- both samples have symbols
+    fed : (o : Opening) (p : Progress) → d < desks → meaning σ .at d ≡ opened o p → 0 < p .size first → 0 < p .size second → CanDo σ (atDesk d (asking (reporting sheet place)))
+    fed o p near e some-first some-second = elim (decLe (p .size first) (o .depth)) [
+      | yes short ↦ refuses SampleShort (table.first-short (meaning σ) d (length blank) place o p near e some-first some-second short)
+      | no one ↦ elim (decLe (p .size second) (o .depth)) [
+        | yes short ↦ refuses SampleShort (table.second-short (meaning σ) d (length blank) place o p near e (omega arith) some-second short)
+        | no two ↦ both-long o p near e (omega arith) (omega arith)
+      ]
+    ]
 
     at-open : (o : Opening) (p : Progress) → d < desks → meaning σ .at d ≡ opened o p → CanDo σ (atDesk d (asking (reporting sheet place)))
     at-open o p near e = elim (decLe 1 (p .size first)) [
       | no z ↦ refuses SampleEmpty (table.first-empty (meaning σ) d (length blank) place o p near e (omega arith))
       | yes one ↦ elim (decLe 1 (p .size second)) [
         | no z ↦ refuses SampleEmpty (table.second-empty (meaning σ) d (length blank) place o p near e (λ q. omega arith) (omega arith))
-        | yes two ↦ both-fed o p near e (λ q. omega arith) (λ q. omega arith)
+        | yes two ↦ fed o p near e one two
       ]
     ]
 

@@ -6,7 +6,6 @@ use mathlib.Core.Logic.{_↔_}
 use mathlib.Core.List.{List, [], _∷_, _++_, reverse, List·Memᴰ, Perm}
 use mathlib.Core.Option.{some}
 use lib.ListN.{length}
-use lib.Dec.{T}
 use Rattle.contexts.specs.Counts.{N-placed}
 use Rattle.contexts.specs.Sitting.{Sample, Sitting}
 use Rattle.estimate.specs.Trees.{Kind, Triple, In}
@@ -15,7 +14,7 @@ use Rattle.estimate.specs.Ties.{KeepsTies}
 use Rattle.rows.specs.Rows.{ZeroFrom, rowsOf}
 use Rattle.rows.specs.Members.{member, members, Increasing}
 use Rattle.replay.specs.Room.{Making, Opening}
-use Rattle.replay.specs.Table.{Line, _when_, Outcome, refused, answered, NoneApplies, First, inOrder}
+use Rattle.replay.specs.Table.{Line, _when_, Outcome, refused, answered, NoneApplies, First}
 use Rattle.replay.specs.Machine.{opening, asking, Call, atDesk, tableOf, answerOf}
 use Rattle.replay.specs.Serial.{Told, Course, calls, answers, struck, sittings, serial, callsAt, openings}
 use Rattle.replay.specs.Alone.{latest, asks}
@@ -28,13 +27,15 @@ use Rattle.store.specs.declared.Made.the-variants.{Done, RoomOutside, StoreShor
 use Rattle.store.specs.Sound.{soundb}
 use Rattle.store.specs.Meaning.{meaning}
 use Rattle.rules.specs.Feed.{countedFrom}
+use Rattle.rules.specs.Orders.{makingOrder, writingOrder, salvageOrder, numbersIn, orderIn}
 use Rattle.rules.specs.Report.{Reported}
 use Rattle.rules.specs.Rules.{Answer, done, reporting, reported, rules}
 use Rattle.rules.specs.Strings.{stringsOf, sittingFor}
 use Rattle.sitting_file.specs.Format.{headerOf}
 use Rattle.sitting_file.specs.Samples.{Below}
 use Rattle.sitting_file.specs.declared.Refusal as file
-use Rattle.sitting_file.specs.declared.Heading.the-variants.{Faulty}
+use Rattle.sitting_file.specs.declared.Shape.{Shape}
+use Rattle.sitting_file.specs.declared.Heading.the-variants.{Whole, Faulty}
 use Rattle.demands.specs.Runs.{OnSheet, Does, MadeNew, Run}
 
 -- ---- DEMAND 1: "refuses by number under the stated conditions and no others. A refused call changes neither the store nor the sheet."
@@ -47,7 +48,8 @@ tableOn σ c = 1 when not (soundb σ) ∷ tableOf rules (meaning σ) c
 pub record Demand1 (σ : List ℕ) (c : Call rules) (o : Outcome Answer) (τ : List ℕ) : Type 0 where
   pub refused-exactly : (n : ℕ) → (o ≡ refused n) ↔ First (tableOn σ c) n
   pub answered-exactly : (o ≡ answered (answerOf rules (meaning σ) c)) ↔ NoneApplies (tableOn σ c)
-  pub numbers-rise : T (inOrder 1 (tableOn σ c))
+  -- "Where several apply", the first of the written list is given: the table has these numbers, in this order
+  pub in-order : numbersIn (tableOn σ c) ≡ 1 ∷ orderIn (meaning σ) c
   pub refused-stays : (n : ℕ) → o ≡ refused n → τ ≡ σ
 
 -- a refused report leaves the sheet that was lent to it
@@ -68,19 +70,21 @@ makingOf StoreShort = refused 18
 pub record Demand1Making (K : ℕ) (σ : List ℕ) (m : Made) (τ : List ℕ) : Type 0 where
   pub refused-exactly : (n : ℕ) → (makingOf m ≡ refused n) ↔ First (makingTable K (length σ)) n
   pub made-exactly : (makingOf m ≡ answered done) ↔ NoneApplies (makingTable K (length σ))
+  pub in-order : numbersIn (makingTable K (length σ)) ≡ makingOrder
   pub refused-stays : (n : ℕ) → makingOf m ≡ refused n → τ ≡ σ
 
 -- a writing of the file of A, D and two samples (document 02, E1) into the bytes `before`, which answers o and leaves `after`
 pub record Demand1Writing (A D : ℕ) (xs ys before : List ℕ) (o : Outcome ℕ) (after : List ℕ) : Type 0 where
   pub refused-exactly : (n : ℕ) → (o ≡ refused n) ↔ First (writingLines A D xs ys (length before)) n
   pub written-exactly : (o ≡ answered (length (fileOf A D xs ys))) ↔ NoneApplies (writingLines A D xs ys (length before))
-  pub numbers-rise : T (inOrder 1 (writingLines A D xs ys (length before)))
+  pub in-order : numbersIn (writingLines A D xs ys (length before)) ≡ writingOrder
   pub refused-stays : (n : ℕ) → o ≡ refused n → after ≡ before
 
 -- a salvage of the bytes `damaged` (document 02, E12) into the bytes `before`, which answers o and leaves `after`
 pub record Demand1Salvage (damaged before : List ℕ) (o : Outcome Saved) (after : List ℕ) : Type 0 where
   pub refused-exactly : (n : ℕ) → (o ≡ refused n) ↔ First (salvageLines (headerOf damaged) damaged (length before)) n
   pub saved-exactly : ((s : Saved) × (o ≡ answered s)) ↔ NoneApplies (salvageLines (headerOf damaged) damaged (length before))
+  pub in-order : (shape : Shape) (at : ℕ) → headerOf damaged ≡ Whole shape at → numbersIn (salvageLines (headerOf damaged) damaged (length before)) ≡ salvageOrder
   -- a faulty header has the reader's number, never 16
   pub as-the-reader : (why : file.Refusal) → headerOf damaged ≡ Faulty why → RefusedAsRead damaged why o
   pub refused-stays : (n : ℕ) → o ≡ refused n → after ≡ before

@@ -5,3 +5,4 @@ pub mod Program
 pub mod Replays
 pub mod AnyStore
 pub mod Charts
+pub mod Short

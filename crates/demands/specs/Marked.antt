@@ -1,5 +1,5 @@
 -- "The eleven marked examples (six values, J1 to J5) are proved together by a single statement over a list." Request E2 adds the value of 4,096, and E3
--- the empty context's counts in J1. The J examples are told of the room's machine: a desk of a new room is opened, the first sample is fed, then the
+-- the empty context's counts in J1; by E8 J5 is refused. The J examples are told of the room's machine: a desk of a new room is opened, the first sample is fed, then the
 -- second, and a report is asked for. Beside them stand two with more than two symbols, since no J example tests the factor A - 1. Assumes nothing.
 use Prim.Native.Nat.{ℕ}
 use mathlib.Core.Path.{_≡_}
@@ -105,7 +105,7 @@ abbrev pub AllHold : List Example → Type 0
 AllHold es = map asked es ≡ map given es
 
 -- the six values with that of 4,096 (request E2), and J1 to J5 as E3 works them; J1 "needs r 3; with r 2 the third feed of the first sample gets 10",
--- and "the empty context's counts become (1,2) in each sample"
+-- and "the empty context's counts become (1,2) in each sample"; "J5 becomes a case of this refusal" (E8)
 unfoldable pub marked : List Example
 marked =
     logarithm 1 gives value 0
@@ -121,7 +121,7 @@ marked =
     ∷ sitting 2 1 3 (0 ∷ 1 ∷ 0 ∷ 1 ∷ []) (0 ∷ 0 ∷ 0 ∷ 0 ∷ []) gives reports (row 2 0 0 (3 ∷ 0 ∷ []) ∷ row 1 1 0 (0 ∷ 2 ∷ []) ∷ row 1 1 1 (1 ∷ 0 ∷ []) ∷ []) (negℤ (pos 6144))
     ∷ sitting 2 1 3 (0 ∷ 1 ∷ 0 ∷ 1 ∷ 0 ∷ 1 ∷ 0 ∷ 1 ∷ []) (0 ∷ 0 ∷ 1 ∷ 0 ∷ 0 ∷ 1 ∷ 0 ∷ 0 ∷ []) gives reports (row 1 1 0 (0 ∷ 4 ∷ []) ∷ row 2 1 0 (3 ∷ 2 ∷ []) ∷ row 0 1 1 (5 ∷ 0 ∷ []) ∷ []) (negℤ (pos 20176))
     ∷ sitting 2 0 1 (0 ∷ 1 ∷ 0 ∷ 1 ∷ []) (0 ∷ 1 ∷ 0 ∷ 1 ∷ []) gives reports (row 0 0 0 (4 ∷ 4 ∷ []) ∷ []) (negℤ (pos 19456))
-    ∷ sitting 2 1 1 (0 ∷ []) (0 ∷ []) gives reports (row 1 0 0 (0 ∷ 0 ∷ []) ∷ row 2 0 0 (0 ∷ 0 ∷ []) ∷ []) (negℤ (pos 0))
+    ∷ sitting 2 1 1 (0 ∷ []) (0 ∷ []) gives each (did ∷ did ∷ did ∷ refusedWith 24 ∷ [])
     ∷ []
 
 -- a split of both with a context that is each sample's own, at A = 3; a shared leaf at A = 8

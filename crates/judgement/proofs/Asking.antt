@@ -7,14 +7,14 @@ use mathlib.Core.List.{List, [], _∷_}
 use lib.ListN.{length, drop, length-reverse}
 use lib.Dec.{eqb, ltb}
 use lib.IntN.{ℤ}
-use Rattle.contexts.specs.Sitting.{first, second, Progress}
+use Rattle.contexts.specs.Sitting.{first, second, Progress, sat}
 use Rattle.numbers.specs.Limits.{rowWidth}
 use Rattle.rows.proofs.Written.{rows-read}
 use Rattle.replay.specs.Room.{Room}
 use Rattle.replay.specs.Table.{Line, _when_, lineNumber, applies, Outcome, refused, answered, verdictOf}
 use Rattle.replay.specs.Machine.{asking, atDesk, verdict, tableOf, tableAt, askingTable, ownLines, answerOf, answerAt}
 use Rattle.replay.proofs.Tables.{number-same}
-use Rattle.rules.specs.Report.{Reported, report, doesNotFit, someEmpty}
+use Rattle.rules.specs.Report.{Reported, report, tooShort, doesNotFit}
 use Rattle.rules.specs.Rules.{Answer, reporting, reported, rules, linesOf}
 use Rattle.rules.specs.Rules as sitting
 use Rattle.rules.proofs.OwnReport.{own-report}
@@ -24,7 +24,7 @@ use Rattle.calls.specs.declared.ReportAnswer.{ReportAnswer}
 use Rattle.calls.specs.declared.ReportAnswer.the-variants as written
 use Rattle.sitting_file.specs.Samples.{Holds, firstOf, secondOf}
 use Rattle.sitting_file.specs.declared.Shape.{Shape}
-use Rattle.judgement.specs.Judgement.{openingOf, stringsIn, fileSitting, emptySample, FileReport}
+use Rattle.judgement.specs.Judgement.{openingOf, stringsIn, fileSitting, emptySample, shortSample, FileReport}
 use Rattle.judgement.specs.Answers as answers
 use Rattle.judgement.specs.Answers.{headed, sheetLeft, toldOf}
 use Rattle.judgement.specs.declared.SittingAnswer.{SittingAnswer}
@@ -49,15 +49,15 @@ module _ (file : List ℕ) (shape : Shape) (h : Holds file shape) (sheet : ℕ) 
   abbrev its : Reported
   its = report (fileSitting file shape)
 
-  -- 11 and 12
+  -- 11, 24 and 12
   abbrev pub late : List Line
-  late = 11 when emptySample shape ∷ 12 when doesNotFit sheet 0 (fileSitting file shape) ∷ []
+  late = 11 when emptySample shape ∷ 24 when shortSample shape ∷ 12 when doesNotFit sheet 0 (fileSitting file shape) ∷ []
 
-  sizes : (p : Progress) (n m : ℕ) → p .size first ≡ n → p .size second ≡ m → someEmpty p ≡ (eqb n 0 || eqb m 0)
-  sizes p n m e f = rw (e, f)
-
-  abbrev as-told : Bool → Reported → Outcome Answer
-  as-told t q = cond t (refused 11) (cond (ltb (sheet / rowWidth) (0 + length (q .rows))) (refused 12) (answered (reported q)))
+  -- by the samples' lengths and the report
+  abbrev as-told : ℕ → ℕ → Reported → Outcome Answer
+  as-told n m q =
+      cond (eqb n 0 || eqb m 0) (refused 11)
+      (cond (tooShort (openingOf shape) n || tooShort (openingOf shape) m) (refused 24) (cond (ltb (sheet / rowWidth) (0 + length (q .rows))) (refused 12) (answered (reported q))))
 
   -- the question at the desk that has the file's strings
   pub asked : (ρ : Room Progress) → Sits (openingOf shape) (stringsIn file shape) ρ → verdict rules ρ (atDesk 0 (asking (reporting sheet 0))) ≡ verdictOf late (reported its)
@@ -67,7 +67,7 @@ module _ (file : List ℕ) (shape : Shape) (h : Holds file shape) (sheet : ℕ) 
       let own = own-report (openingOf shape) (stringsIn file shape) p (s .stands) in
       let n = s .stands .sizes first ∙ length-reverse (firstOf file shape) ∙ h .first-count in
       let m = s .stands .sizes second ∙ length-reverse (secondOf file shape) ∙ h .second-count in
-      rw (s .at-desk) (ap₂ as-told (sizes p (shape .first) (shape .second) n m) own)
+      rw (s .at-desk) (ap (λ (k : ℕ). as-told k (p .size second) (report (sat (shape .alphabet) (shape .depth) p))) n ∙ ap₂ (as-told (shape .first)) m own)
 
 -- ---- what the report's promise makes of it
 

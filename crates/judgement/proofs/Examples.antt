@@ -30,6 +30,11 @@ pub empty-text : textOf (judgement [] sheetNumbers) ≡ ascii "refused 13\n"
 unfolding firstGroup headerUpTo bodyOf judged textOf ascii spelled lineOf
 empty-text = refl
 
+-- J5: neither sample has more symbols than the depth
+pub short-text : textOf (judgement (2 ∷ 1 ∷ 1 ∷ 1 ∷ 0 ∷ 0 ∷ []) sheetNumbers) ≡ ascii "refused 24\n"
+unfolding format.judgedNumber firstGroup headerUpTo symbolsFrom bodyOf stringsIn judged verdictOf sum N total textOf ascii spelled lineOf
+short-text = refl
+
 -- an empty sample
 pub no-sample-text : textOf (judgement (2 ∷ 1 ∷ 0 ∷ 1 ∷ 0 ∷ []) sheetNumbers) ≡ ascii "refused 11\n"
 unfolding format.judgedNumber firstGroup headerUpTo symbolsFrom bodyOf stringsIn judged verdictOf sum N total textOf ascii spelled lineOf

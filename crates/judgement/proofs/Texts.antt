@@ -55,7 +55,7 @@ stands file sheet x e = go (readOf file) refl e
     go (reading.Refused why) r e = let z : _≡_ {A = ℕ} 0 1 = cc in absurd (omega arith)
     go (reading.Accepted shape) r e =
         let n = answers-none (fileLines file shape sheet) (record { shape = shape; report = report (fileSitting file shape) }) x e in
-        let f = ltb-false (sheet / rowWidth) (0 + length (reportOf (fileSitting file shape))) (n .0 .1 .1 .0) in
+        let f = ltb-false (sheet / rowWidth) (0 + length (reportOf (fileSitting file shape))) (n .0 .1 .1 .1 .0) in
         subst (Stands file sheet) (n .1) (record { accepted = r; limits = accepted-holds file shape r .limits; own = refl; fits = omega arith })
 
 module _ (file store sheet store′ sheet′ : List ℕ) (r : SittingAnswer) (a : Answers file store sheet r store′ sheet′) where

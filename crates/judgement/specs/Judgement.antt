@@ -7,7 +7,7 @@ use lib.Dec.{eqb, ltb}
 use Rattle.contexts.specs.Sitting.{Sample, first, second, Sitting, contextsHeld}
 use Rattle.replay.specs.Room.{Opening, naming}
 use Rattle.replay.specs.Table.{Line, _when_, Outcome, refused, verdictOf}
-use Rattle.rules.specs.Report.{Reported, report, doesNotFit}
+use Rattle.rules.specs.Report.{Reported, report, tooShort, doesNotFit}
 use Rattle.rules.specs.Strings.{sittingFor}
 use Rattle.sitting_file.specs.Format.{refusalNumber, readOf}
 use Rattle.sitting_file.specs.Samples.{firstOf, secondOf}
@@ -43,11 +43,16 @@ pastRoom x = ltb roomMade (contextsHeld x)
 abbrev pub emptySample : Shape → Bool
 emptySample shape = eqb (shape .first) 0 || eqb (shape .second) 0
 
+-- "a sample with at least one symbol and no more than D"
+abbrev pub shortSample : Shape → Bool
+shortSample shape = tooShort (openingOf shape) (shape .first) || tooShort (openingOf shape) (shape .second)
+
 -- the refusals of a file that the reader accepts, where the sheet has so many numbers
 abbrev pub fileLines : List ℕ → Shape → ℕ → List Line
 fileLines file shape sheet =
     10 when pastRoom (fileSitting file shape)
     ∷ 11 when emptySample shape
+    ∷ 24 when shortSample shape
     ∷ 12 when doesNotFit sheet 0 (fileSitting file shape)
     ∷ []
 

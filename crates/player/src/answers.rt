@@ -28,7 +28,7 @@ pub(crate) fn say_score(score: i64) {
     say_number(magnitude(score));
 }
 
-// A refusal by its number in document 01's table.
+// A refusal by its number in the documents.
 pub(crate) fn say_refused(number: u32) {
     say(b"refused ");
     say_number(number as u64);

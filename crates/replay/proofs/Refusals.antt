@@ -1,12 +1,11 @@
--- Each call is refused by the first line of its table that applies and answered where none does; the numbers rise along each
--- table, a refused call leaves the room as it was, and the room question changes nothing. Assumes nothing.
+-- Each call is refused by the first line of its table that applies and answered where none does; a refused call leaves the room
+-- as it was, and the room question changes nothing. Assumes nothing.
 use Prim.Native.Nat.{ℕ}
 use mathlib.Core.Path.{_≡_, refl}
 use mathlib.Core.Logic.{_↔_}
-use lib.Dec.{T}
-use Rattle.replay.specs.Room.{Opening, Desk, closed, opened, Room, left}
-use Rattle.replay.specs.Table.{Outcome, answered, refused, verdictOf, NoneApplies, First, inOrder}
-use Rattle.replay.specs.Machine.{Rules, opening, asking, closing, Call, atDesk, roomQuestion, openingTable, ownLines, askingTable, closingTable, tableAt, tableOf, answerOf, verdict, shift, settle, move}
+use Rattle.replay.specs.Room.{Room, left}
+use Rattle.replay.specs.Table.{Outcome, answered, refused, verdictOf, NoneApplies, First}
+use Rattle.replay.specs.Machine.{Rules, Call, roomQuestion, tableOf, answerOf, verdict, shift, settle, move}
 use Rattle.replay.proofs.Tables.{refused-exactly, answered-exactly, answers-none}
 
 module _ (R : Rules) where
@@ -24,18 +23,6 @@ module _ (R : Rules) where
   pub answer-only : (ρ : Room (R .State)) (c : Call R) (a : R .Answer) → verdict R ρ c ≡ answered a → answerOf R ρ c ≡ a
   unfolding verdict
   answer-only ρ c a e = answers-none (tableOf R ρ c) (answerOf R ρ c) a e .1
-
-  -- the numbers rise along each table, given that an ask's own lines rise and are above 4
-  pub tables-rise : ((o : Opening) (s : R .State) (q : R .Ask) → T (inOrder 5 (R .lines o s q))) → (ρ : Room (R .State)) (c : Call R) → T (inOrder 2 (tableOf R ρ c))
-  unfolding inOrder tableOf tableAt openingTable askingTable closingTable ownLines
-  tables-rise own ρ (atDesk d (opening o)) = tt
-  tables-rise own ρ (atDesk d (asking q)) = go (ρ .at d)
-    where
-      go : (D : Desk (R .State)) → T (inOrder 5 (ownLines R D q))
-      go closed = tt
-      go (opened o s) = own o s q
-  tables-rise own ρ (atDesk d closing) = tt
-  tables-rise own ρ roomQuestion = tt
 
   -- a refused call leaves the room as it was
   pub refused-stays : (ρ : Room (R .State)) (c : Call R) (n : ℕ) → verdict R ρ c ≡ refused n → move R ρ c ≡ ρ

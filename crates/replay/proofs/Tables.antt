@@ -1,14 +1,12 @@
--- What a table decides: refused n exactly where n is the number of the first line that applies, answered exactly where none
--- does, and by the lowest number where the numbers rise. Assumes nothing.
-use Prim.Native.Nat.{ℕ, suc, _≤_}
+-- What a table decides: refused n exactly where n is the number of the first line that applies, and answered exactly where none
+-- does. Assumes nothing.
+use Prim.Native.Nat.{ℕ}
 use native.Mathlib.Omega.{arith}
 use mathlib.Core.Path.{_≡_, refl, ap}
 use mathlib.Core.Logic.{_↔_}
 use mathlib.Core.Bool.{Bool, true, false, cond}
 use mathlib.Core.List.{List, [], _∷_, _++_}
-use lib.Dec.{T, leb, leb→le}
-use Rattle.numbers.proofs.Tests.{left, right}
-use Rattle.replay.specs.Table.{Line, _when_, lineNumber, applies, Outcome, refused, answered, verdictOf, NoneApplies, First, inOrder}
+use Rattle.replay.specs.Table.{Line, _when_, lineNumber, applies, Outcome, refused, answered, verdictOf, NoneApplies, First}
 
 module _ {A : Type 0} where
   -- an answer is never a refusal
@@ -59,24 +57,3 @@ module _ {A : Type 0} where
   -- refused n exactly when n is the number of the first line that applies
   pub refused-exactly : (ls : List Line) (x : A) (n : ℕ) → (verdictOf ls x ≡ refused n) ↔ First ls n
   refused-exactly ls x n = (refuses-first ls x n, λ h. rw (h .split) (first-refuses (h .before) n (h .behind) x (h .quiet)))
-
--- a line of a rising table has a number from its lower end on
-rises-low : (low : ℕ) (before : List Line) (n : ℕ) (t : Bool) (behind : List Line) → T (inOrder low (before ++ n when t ∷ behind)) → low ≤ n
-unfolding inOrder
-rises-low low [] n t behind h = leb→le low n (left (leb low n) (inOrder (suc n) behind) h)
-rises-low low (m when s ∷ ls) n t behind h =
-    let here = leb→le low m (left (leb low m) (inOrder (suc m) (ls ++ n when t ∷ behind)) h) in
-    let there = rises-low (suc m) ls n t behind (right (leb low m) (inOrder (suc m) (ls ++ n when t ∷ behind)) h) in
-    omega arith
-
--- "Where several apply, the lowest number is given": in a rising table no line that applies has a lower number
-pub lowest-given : {A : Type 0} (low : ℕ) (before : List Line) (m : ℕ) (behind : List Line) (x : A) (n : ℕ)
-    → T (inOrder low (before ++ m when true ∷ behind)) → verdictOf (before ++ m when true ∷ behind) x ≡ refused n → n ≤ m
-unfolding inOrder verdictOf
-lowest-given low [] m behind x n h e = let same : m ≡ n = cc in omega arith
-lowest-given low (k when true ∷ ls) m behind x n h e =
-    let same : k ≡ n = cc in
-    let above = rises-low (suc k) ls m true behind (right (leb low k) (inOrder (suc k) (ls ++ m when true ∷ behind)) h) in
-    omega arith
-lowest-given low (k when false ∷ ls) m behind x n h e =
-    lowest-given (suc k) ls m behind x n (right (leb low k) (inOrder (suc k) (ls ++ m when true ∷ behind)) h) e

@@ -23,7 +23,7 @@ pub record Rules : Type 1 where
   pub room : ℕ → Answer
   -- "a desk opens with both samples empty"
   pub fresh : Opening → State
-  -- an ask's own refusals, 8 to 12, judged by the sitting alone
+  -- an ask's own refusals, behind 4, judged by the sitting alone
   pub lines : Opening → State → Ask → List Line
   -- what an accepted ask answers, and the sitting after it
   pub answer : Opening → State → Ask → Answer
@@ -46,7 +46,7 @@ unfoldable pub settle : {Answer Thing : Type 0} → Outcome Answer → Thing →
 settle (refused n) before changed = before
 settle (answered a) before changed = changed
 
--- ---- the tables: for each call one line for each row of document 01's table that concerns it, in its order
+-- ---- the tables: for each call one line for each refusal of the documents that concerns it, in the order given
 
 -- "desk number above 7"
 abbrev pub noSuchDesk : ℕ → Bool

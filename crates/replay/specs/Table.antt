@@ -1,10 +1,9 @@
 -- Refusals told by an ordered table: a call is refused by the first line that applies, and answered where none does.
 -- Assumes nothing.
-use Prim.Native.Nat.{ℕ, suc}
+use Prim.Native.Nat.{ℕ}
 use mathlib.Core.Path.{_≡_}
-use mathlib.Core.Bool.{Bool, true, false, cond, _&&_}
+use mathlib.Core.Bool.{Bool, true, false, cond}
 use mathlib.Core.List.{List, [], _∷_, _++_}
-use lib.Dec.{leb}
 
 -- a line of a call's table: a refusal's number, and whether it applies
 infix 68 _when_
@@ -38,8 +37,3 @@ pub record First (ls : List Line) (n : ℕ) : Type 0 where
   pub behind : List Line
   pub split : ls ≡ before ++ n when true ∷ behind
   pub quiet : NoneApplies before
-
--- the numbers rise along a table, the first of them at least `low`
-unfoldable pub inOrder : ℕ → List Line → Bool
-inOrder low [] = true
-inOrder low (l ∷ ls) = leb low (lineNumber l) && inOrder (suc (lineNumber l)) ls

@@ -1,5 +1,6 @@
 -- What a report on an open desk answers, as the code has it. Assumes nothing.
 use Prim.Native.Nat.{ℕ, _+_, _*_, _/_, _≤_, _<_}
+use native.Mathlib.Omega.{arith}
 use mathlib.Core.Path.{_≡_, sym, ap, ap₂, subst, _∙_}
 use mathlib.Core.List.{List}
 use lib.ListN.{length, drop}
@@ -12,7 +13,7 @@ use Rattle.numbers.specs.Limits.{rowWidth}
 use Rattle.rows.specs.Rows.{Row, reportOf, readRows}
 use Rattle.replay.specs.Room.{opened}
 use Rattle.replay.specs.Table.{refused, answered}
-use Rattle.store.specs.Layout.{sizeAt}
+use Rattle.store.specs.Layout.{depthAt, sizeAt}
 use Rattle.store.specs.Meaning.{openingAt, progressAt, sittingAt, meaning}
 use Rattle.store.proofs.Fitting.{desk-opened}
 use Rattle.weighing.specs.declared.Desk.{Desk}
@@ -29,17 +30,17 @@ module _ (s : List ℕ) (k : Desk) (c : CanReportOn s k) (place : ℕ) (sheet : 
   unfolding meaning
   at-desk = desk-opened s (k .number) (c .at-open)
 
-  some-first : sizeAt s (k .number) first ≡ 0 → ⊥
-  some-first e = c .some-first (ap (λ (x : Desk). x .n) (c .is-desk) ∙ e)
+  long-first : depthAt s (k .number) < sizeAt s (k .number) first
+  long-first = omega (arith, c .long-first, ap (λ (x : Desk). x .depth) (c .is-desk), ap (λ (x : Desk). x .n) (c .is-desk))
 
-  some-second : sizeAt s (k .number) second ≡ 0 → ⊥
-  some-second e = c .some-second (ap (λ (x : Desk). x .m) (c .is-desk) ∙ e)
+  long-second : depthAt s (k .number) < sizeAt s (k .number) second
+  long-second = omega (arith, c .long-second, ap (λ (x : Desk). x .depth) (c .is-desk), ap (λ (x : Desk). x .m) (c .is-desk))
 
   module _ (kept : List ℕ) (r : Least) (w : WeighedDesk s (k .number) kept r) where
     pub short-told : length sheet / rowWidth < place + r .rows → Reports s (k .number) place (refused 12) sheet sheet
     short-told h =
         reports-refused s (k .number) place sheet 12 (c .sound)
-        (sheet-short (meaning s) (k .number) (length sheet) place (openingAt s (k .number)) (progressAt s (k .number)) (c .at-open .desk) at-desk some-first some-second
+        (sheet-short (meaning s) (k .number) (length sheet) place (openingAt s (k .number)) (progressAt s (k .number)) (c .at-open .desk) at-desk long-first long-second
         (subst (λ (n : ℕ). length sheet / rowWidth < place + n) (w .rows-are) h))
 
     pub has-room : place + r .rows ≤ length sheet / rowWidth → place + length (reportOf (sittingAt s (k .number))) ≤ length sheet / rowWidth
@@ -64,5 +65,5 @@ module _ (s : List ℕ) (k : Desk) (c : CanReportOn s k) (place : ℕ) (sheet : 
     report-told h after z e f =
         subst (λ (x : Reported). Reports s (k .number) place (answered (reported x)) sheet after) (sym (said h after z e f))
         (reports-rows s (k .number) place sheet (report (sittingAt s (k .number))) after (c .sound)
-        (rows-told (meaning s) (k .number) (length sheet) place (openingAt s (k .number)) (progressAt s (k .number)) (c .at-open .desk) at-desk some-first some-second (has-room h))
+        (rows-told (meaning s) (k .number) (length sheet) place (openingAt s (k .number)) (progressAt s (k .number)) (c .at-open .desk) at-desk long-first long-second (has-room h))
         e)

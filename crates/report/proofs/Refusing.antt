@@ -1,5 +1,6 @@
 -- What a refused report promises, and which desks can be reported on. Assumes nothing.
 use Prim.Native.Nat.{ℕ, _≤_, _<_}
+use native.Mathlib.Omega.{arith}
 use mathlib.Core.Path.{_≡_, sym, ap, subst, _∙_}
 use mathlib.Core.Bool.{true}
 use mathlib.Core.List.{List}
@@ -17,7 +18,7 @@ use Rattle.store.proofs.Fitting.{desk-opened, desk-closed}
 use Rattle.weighing.specs.declared.Desk.{Desk}
 use Rattle.report.specs.Desk.{deskIn, CanReportOn}
 use Rattle.calls.specs.Promises.{Reports}
-use Rattle.calls.proofs.Reporting.{no-such-desk, not-open, first-empty, second-empty, reports-refused}
+use Rattle.calls.proofs.Reporting.{no-such-desk, not-open, first-empty, second-empty, first-short, second-short, reports-refused}
 
 module _ (s : List ℕ) (d place : ℕ) (sheet : List ℕ) (sound : soundb s ≡ true) where
   pub told-no-desk : desks ≤ d → Reports s d place (refused 2) sheet sheet
@@ -38,14 +39,30 @@ module _ (s : List ℕ) (d place : ℕ) (sheet : List ℕ) (sound : soundb s ≡
     pub told-second : (sizeAt s d first ≡ 0 → ⊥) → sizeAt s d second ≡ 0 → Reports s d place (refused 11) sheet sheet
     told-second n z = reports-refused s d place sheet 11 sound (second-empty (meaning s) d (length sheet) place (openingAt s d) (progressAt s d) (o .desk) at-desk n z)
 
-    -- an open desk whose samples have symbols can be reported on
-    pub can-report : (k : Desk) → k ≡ deskIn s d → (k .n ≡ 0 → ⊥) → (k .m ≡ 0 → ⊥) → CanReportOn s k
+    module _ (k : Desk) (e : k ≡ deskIn s d) (m : k .m ≡ 0 → ⊥) where
+      some-second : 0 < sizeAt s d second
+      some-second = let z = subst (λ (x : Desk). x .m ≡ 0 → ⊥) e m in omega arith
+
+      pub told-first-short : (k .n ≡ 0 → ⊥) → k .n ≤ k .depth → Reports s d place (refused 24) sheet sheet
+      told-first-short n h =
+          let z = subst (λ (x : Desk). x .n ≡ 0 → ⊥) e n in
+          reports-refused s d place sheet 24 sound
+          (first-short (meaning s) d (length sheet) place (openingAt s d) (progressAt s d) (o .desk) at-desk (omega arith) some-second (subst (λ (x : Desk). x .n ≤ x .depth) e h))
+
+      pub told-second-short : k .depth < k .n → k .m ≤ k .depth → Reports s d place (refused 24) sheet sheet
+      told-second-short n h =
+          reports-refused s d place sheet 24 sound
+          (second-short (meaning s) d (length sheet) place (openingAt s d) (progressAt s d) (o .desk) at-desk
+          (subst (λ (x : Desk). x .depth < x .n) e n) some-second (subst (λ (x : Desk). x .m ≤ x .depth) e h))
+
+    -- an open desk whose samples have more symbols than D can be reported on
+    pub can-report : (k : Desk) → k ≡ deskIn s d → k .depth < k .n → k .depth < k .m → CanReportOn s k
     can-report k e n m =
         let number : k .number ≡ d = ap (λ (x : Desk). x .number) e in
         record {
           sound = sound;
           at-open = subst (Open s) (sym number) o;
           is-desk = e ∙ ap (deskIn s) (sym number);
-          some-first = n;
-          some-second = m;
+          long-first = n;
+          long-second = m;
         }

@@ -19,13 +19,13 @@ use Rattle.weighing.specs.declared.Least.{Least}
 abbrev pub deskIn : List ℕ → ℕ → Desk
 deskIn s d = record { number = d; symbols = symbolsAt s d; depth = depthAt s d; n = sizeAt s d first; m = sizeAt s d second }
 
--- the numbers are those of a sound store with that desk open, and both samples have symbols
+-- the numbers are those of a sound store with that desk open, and both samples have more symbols than D
 pub record CanReportOn (s : List ℕ) (k : Desk) : Type 0 where
   pub sound : soundb s ≡ true
   pub at-open : Open s (k .number)
   pub is-desk : k ≡ deskIn s (k .number)
-  pub some-first : k .n ≡ 0 → ⊥
-  pub some-second : k .m ≡ 0 → ⊥
+  pub long-first : k .depth < k .n
+  pub long-second : k .depth < k .m
 
 -- the decisions of the desk's trees stand beside its records
 abbrev pub DecidedDesk : List ℕ → ℕ → List ℕ → Type 0

@@ -50,10 +50,17 @@ pub fn report(store: &[u32], desk: u32, sheet: &mut [u32], place: u32) -> Report
     if m == 0 {
         return ReportAnswer::Refused(Refusal::SampleEmpty);
     }
+    let depth = at.depth;
+    if n <= depth {
+        return ReportAnswer::Refused(Refusal::SampleShort);
+    }
+    if m <= depth {
+        return ReportAnswer::Refused(Refusal::SampleShort);
+    }
     report_on(store, at, sheet, place)
 }
 
-// The report on an open desk both of whose samples have symbols. What logarithms are read from is put here once, and lent to all below.
+// The report on an open desk both of whose samples have more symbols than its depth. What logarithms are read from is put here once, and lent to all below.
 fn report_on(store: &[u32], desk: Desk, sheet: &mut [u32], place: u32) -> ReportAnswer
     requires { ⌜ CanReportOn (now store) desk ⌝ }
     ensures { λ r. ⌜ Reports (now (store .entry)) (desk .number) place (writtenOf r place (now (sheet .exit))) (now (sheet .entry)) (now (sheet .exit)) ⌝ }

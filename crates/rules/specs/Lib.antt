@@ -4,3 +4,5 @@ pub mod Question
 pub mod Rules
 pub mod Strings
 pub mod SameActs
+pub mod Short
+pub mod Orders

@@ -27,7 +27,7 @@ roomOutside K = ltb K 1 || ltb mostRoom K
 abbrev pub storeShort : ℕ → ℕ → Bool
 storeShort K n = ltb n (storeSize K)
 
--- "Where several apply, the lowest number is given"
+-- where both apply, 17 goes first
 abbrev pub madeOf : ℕ → ℕ → Made
 madeOf K n = cond (roomOutside K) RoomOutside (cond (storeShort K n) StoreShort Done)
 

@@ -15,7 +15,7 @@ use Rattle.weighing.specs.declared.Desk.{Desk}
 use Rattle.calls.specs.Refusals.{writtenOf}
 use Rattle.calls.specs.Promises.{Reports}
 use Rattle.calls.proofs.Reporting.{reports-unsound}
-use Rattle.report.proofs.Refusing.{told-no-desk, told-shut, told-first, told-second, can-report}
+use Rattle.report.proofs.Refusing.{told-no-desk, told-shut, told-first, told-second, told-first-short, told-second-short, can-report}
 use Rattle.report.proofs.report.Statement.{statement}
 use Rattle.report.proofs.report.Tie as tie
 
@@ -69,22 +69,37 @@ returns-5 c =
     (λ e. c .before .if4 .left (ap (λ (k : Desk). k .n) k ∙ e))
     (ap (λ (k : Desk). k .m) (sym k) ∙ c .if5 .taken)
 
+returns-6 : tie.Need-returns-6
+returns-6 c =
+    let x = c .before .before .before .before .before .before .before .before .before .before .before .args in
+    let k = c .before .before .before .desk-in in
+    told-first-short (x .store .now) (x .desk) (x .place) (x .sheet .now) (sound-here (c .before .before .before .before .before .before .before)) (open-here (c .before .before .before .before))
+    (k .result) (k .ensures) (c .before .if5 .left) (c .before .before .if4 .left) (c .if6 .taken)
+
+returns-7 : tie.Need-returns-7
+returns-7 c =
+    let x = c .before .before .before .before .before .before .before .before .before .before .before .before .args in
+    let k = c .before .before .before .before .desk-in in
+    told-second-short (x .store .now) (x .desk) (x .place) (x .sheet .now) (sound-here (c .before .before .before .before .before .before .before .before)) (open-here (c .before .before .before .before .before))
+    (k .result) (k .ensures) (c .before .before .if5 .left) (c .before .if6 .left) (c .if7 .taken)
+
 report-on-requires : tie.Need-report-on-requires
 report-on-requires c κs =
-    let x = c .before .before .before .before .before .before .before .before .before .before .before .args in
-    can-report (x .store .now) (x .desk) (x .place) (x .sheet .now) (sound-here (c .before .before .before .before .before .before .before)) (open-here (c .before .before .before .before))
-    (c .before .before .before .desk-in .result) (c .before .before .before .desk-in .ensures) (c .before .before .if4 .left) (c .before .if5 .left)
+    let x = c .before .before .before .before .before .before .before .before .before .before .before .before .before .args in
+    let k = c .before .before .before .before .before .desk-in in
+    can-report (x .store .now) (x .desk) (x .place) (x .sheet .now) (sound-here (c .before .before .before .before .before .before .before .before .before)) (open-here (c .before .before .before .before .before .before))
+    (k .result) (k .ensures) (c .before .before .if6 .left) (c .before .if7 .left)
 
 same-length : tie.Need-same-length
 same-length c = search needs
 
-returns-6 : tie.Need-returns-6
-returns-6 c =
-    let x = c .before .before .before .before .before .before .before .before .before .before .before .before .before .before .args in
+returns-8 : tie.Need-returns-8
+returns-8 c =
+    let x = c .before .before .before .before .before .before .before .before .before .before .before .before .before .before .before .before .args in
     let r = c .before .before .report-on in
     let after = r .last .1 .1 .0 in
     subst (λ (d : ℕ). Reports (x .store .now) d (x .place) (writtenOf (r .result) (x .place) after) (x .sheet .now) after)
-    (ap (λ (k : Desk). k .number) (c .before .before .before .before .before .before .desk-in .ensures)) (r .ensures)
+    (ap (λ (k : Desk). k .number) (c .before .before .before .before .before .before .before .before .desk-in .ensures)) (r .ensures)
 
 pub report-spec : {M : Type 1} → statement M
 report-spec =
@@ -98,6 +113,8 @@ report-spec =
     desk-in-requires
     returns-4
     returns-5
+    returns-6
+    returns-7
     report-on-requires
     same-length
-    returns-6)
+    returns-8)
