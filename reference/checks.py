@@ -6,22 +6,22 @@ the tally what it compared.
 
 from itertools import accumulate
 
-from reference.answers import Lost, Refused, Salvaged, Shape, Written
+from reference.answers import Lost, Refused, Report, Salvaged, Shape, Written
 from reference.contexts import children, strings_up_to
 from reference.counts import UNSEEN, N, counts_by_place, total
 from reference.difference import Difference, demand_equal
-from reference.estimate import Recursion, Scale
+from reference.estimate import Recursion, Scale, Sitting
 from reference.inputs import damaged_file, drawn_file, drawn_room, drawn_sample, drawn_sitting, drawn_values
 from reference.inputs import file_to_salvage, smaller_limit
-from reference.limits import ALPHABETS, BOTH_SAMPLES, COUNTS, DEPTHS
+from reference.limits import ALPHABETS, BOTH_SAMPLES, COUNTS, DEPTHS, ROOMS, ROW, SAMPLES, store_length
 from reference.logarithm import L, follows_rule
 from reference.program import INPUT_BYTES
 from reference.replay import CLOSING_QUESTIONS, replay_of
-from reference.rows import rows_of
+from reference.rows import estimate, rows_of
 from reference.salvage import losses_kind, output, salvage, shown
-from reference.script import Player, answer_kind
+from reference.script import BLANK_SHEET, Player, answer_kind
 from reference.sitting_file import LENGTHS, number_bytes, read, samples_of, write, write_into
-from reference.store import OpenSitting
+from reference.store import OpenSitting, Store
 from reference.triples import best_triples, first_by_ties, is_admissible
 from reference.walks import drawn_walk
 
@@ -122,6 +122,38 @@ def check_whole_tree(random, tally):
     places = sum(len(range(sitting.D, len(sample))) for sample in sitting.samples)
     demand_equal("places counted", sitting, rule=places, rows=sum(sum(row[3:]) for row in rows[1]))
     tally["whole tree against unseen strings by length: sittings", ""] += 1
+
+
+def reported_by_counts(sitting, room):
+    """What a report answers where the sheet has room for so many rows, by what is counted: 24 where a sample has symbols and
+    no context has seen one of them."""
+    if () in sitting.samples:
+        return Refused(11)
+    if {} in [counts_by_place(sample, sitting.D) for sample in sitting.samples]:
+        return Refused(24)
+    rows, score = estimate(sitting)
+    return Report(len(rows), score) if len(rows) <= room else Refused(12)
+
+
+def check_short(random, tally):
+    """Samples of lengths around the depth, and a sheet around the rows needed: 11, 24 and 12 in their order, and a refused
+    report leaves the sheet."""
+    A, D = random.choice(ALPHABETS), random.choice(DEPTHS)
+    lengths = [random.choice([0, 1, D, D + 1, D + 1, D + 1, D + 2]) for _ in SAMPLES]
+    sitting = Sitting(A, D, tuple(drawn_sample(random, A, length) for length in lengths))
+    store = Store()
+    store.make(ROOMS[-1], store_length(ROOMS[-1]))
+    store.open(0, A, D, ROOMS[-1])
+    for sample, symbols in enumerate(sitting.samples):
+        for symbol in symbols:
+            store.feed(0, sample, symbol)
+    room = len(estimate(sitting)[0]) + random.choice([-1, 0, 0, 1])
+    sheet = [BLANK_SHEET] * (ROW * room)
+    answer = store.report(0, sheet, 0)
+    demand_equal("report", (sitting, room), by_counts=reported_by_counts(sitting, room), by_lengths=answer)
+    refused = isinstance(answer, Refused)
+    demand_equal("sheet", (sitting, room), rule=refused, left=sheet == [BLANK_SHEET] * (ROW * room))
+    tally["reports of samples around the depth, by what is counted", f"refused {answer.number}" if refused else "answered"] += 1
 
 
 def check_written(random, tally):
@@ -333,6 +365,7 @@ CHECKS = [
     (check_enumeration, 10),
     (check_ties, 10),
     (check_whole_tree, 3),
+    (check_short, 10),
     (check_written, 10),
     (check_damaged, 30),
     (check_smaller_limit, 20),

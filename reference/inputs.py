@@ -103,14 +103,29 @@ def drawn_sitting(random, shapes=None):
     return Sitting(A, D, drawn_pair(random, A))
 
 
+def cut_to_depth(random, sitting):
+    """The sitting with one of its samples cut to one symbol, to as many as the depth, or to one more."""
+    return with_sample(random, sitting, lambda sample: sample[: random.choice([1, max(sitting.D, 1), sitting.D + 1])])
+
+
+def less_deep(random, sitting):
+    """The sitting at a depth that each of its samples is longer than; as it is where one has no symbol."""
+    shortest = min(map(len, sitting.samples))
+    return sitting._replace(D=min(sitting.D, random.randrange(shortest))) if shortest else sitting
+
+
 def drawn_file(random):
-    """A whole file, mostly one whose contexts the program has room for. One in twenty has constant
-    samples at depth 0, so that its score shows one logarithm."""
+    """A whole file, mostly one whose contexts the program has room for and whose samples are longer than the depth. One in
+    twenty has constant samples at depth 0, so that its score shows one logarithm."""
     if random.random() < 0.05:
         return write(2, 0, *((0,) * random.randrange(2, SAMPLE_LIMIT + 1) for _ in range(2)))
     sitting = drawn_sitting(random)
     if random.random() < 0.5:
         sitting = sitting._replace(D=random.randrange(3))
+    if min(map(len, sitting.samples)) <= sitting.D and random.random() < 0.9:
+        sitting = less_deep(random, sitting)
+    if random.random() < 0.1:
+        sitting = cut_to_depth(random, sitting)
     return write(sitting.A, sitting.D, *sitting.samples)
 
 
@@ -338,7 +353,7 @@ def fixed_files():
         (8, 0, (0,), (8,)),
         (8, 0, (0,), (128,)),
     ]
-    whole = [write(*values) for values in marked + limits + held_limits()]
+    whole = [write(*values) for values in marked + limits + held_limits() + short_samples()]
     return whole + [bytes.fromhex(text) for text in FAULTS] + too_long()
 
 
@@ -415,13 +430,21 @@ def full_length(symbols):
 
 
 def held_limits():
-    """Sittings that hold just the program's 256 contexts and one more, and refusals 10 that come before 11. With many[:154]
-    256 are held; the first place that counts in a second sample, its sixth, adds up to five at once to many[:150]'s 251."""
+    """Sittings that hold just the program's 256 contexts and one more, and refusals 10 that come before 11 and 24. With many[:154]
+    256 are held, and many[:6] adds none to them; the first place that counts in a second sample, its sixth, adds up to five at
+    once to many[:150]'s 251."""
     many = de_bruijn(3, 5)
-    filling = [(3, 5, many[:length], (0,)) for length in range(152, 158)]
+    filling = [(3, 5, many[:length], many[:count]) for length in range(152, 158) for count in (1, 6)]
     refilling = [(3, 5, many[:154], many[140:length]) for length in range(152, 158)]
     at_once = [(4, 5, many[:length], (3,) * count) for length in range(149, 153) for count in (5, 6, 7)]
-    return filling + refilling + at_once + [(3, 5, many, ()), (3, 5, (), many)]
+    return filling + refilling + at_once + [(3, 5, many, ()), (3, 5, (), many), (3, 5, (0,), many)]
+
+
+def short_samples():
+    """Samples of none, of one symbol, of as many as the depth and of one more, each beside each: 11, 24 and reports."""
+    first, second = full_length((0, 1, 1, 2)), full_length((2, 0))
+    lengths = {D: sorted({0, 1, D, D + 1}) for D in (0, 1, 2, 6)}
+    return [(3, D, first[:n], second[:m]) for D in lengths for n in lengths[D] for m in lengths[D]]
 
 
 def too_long():

@@ -1,8 +1,9 @@
 """Document 01, "Desks and the store": the store as an abstract machine.
 
-Each call asks for its refusals from the lowest number up, so that the lowest is given, and
-changes nothing before the last of them. Refusal 1 is about the numbers of a store, which are
-not modelled: it is given exactly where no making was accepted yet.
+Each call asks for its refusals in the order given, so that the first that applies is given, and
+changes nothing before the last of them. The order is that of the numbers, but for 24, which comes
+after 11 and before 12. Refusal 1 is about the numbers of a store, which are not modelled: it is
+given exactly where no making was accepted yet.
 """
 
 from reference.answers import Both, Done, First, Neither, Refused, Report, Room, Second
@@ -38,6 +39,10 @@ class OpenSitting:
         symbols.append(symbol)
         self.held.update(contexts_at(symbols, len(symbols), self.D))
         count_place(self.seen[sample], symbols, len(symbols), self.D)
+
+    def too_short(self, sample):
+        """Whether the sample has at least one symbol and no more than D, so that no place of it counts."""
+        return 0 < len(self.samples[sample]) <= self.D
 
     def estimate(self):
         """The rows and the score of its report."""
@@ -125,6 +130,8 @@ class Store:
         sitting = self.desks[desk]
         if not all(sitting.samples):
             return Refused(11)
+        if any(sitting.too_short(sample) for sample in SAMPLES):
+            return Refused(24)
         rows, score = sitting.estimate()
         if place + len(rows) > len(sheet) // ROW:
             return Refused(12)

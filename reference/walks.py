@@ -46,6 +46,11 @@ class Walk:
         """The sitting at that desk; None where there is none."""
         return self.store.desks[desk] if desk in DESKS else None
 
+    def uncounted(self):
+        """The open desks with those of their samples of which no place counts yet."""
+        sittings = [(desk, self.store.desks[desk]) for desk in self.open_desks()]
+        return [(desk, i) for desk, sitting in sittings for i in SAMPLES if len(sitting.samples[i]) <= sitting.D]
+
 
 def make(walk):
     random = walk.random
@@ -84,16 +89,26 @@ def feed(walk):
     walk.play("feed", desk, walk.odd(random.randrange(2)), walk.odd(symbol))
 
 
+def some_sample(walk):
+    """A desk and a sample to be fed; half of them are samples of which no place counts yet, so that there is much to report on."""
+    uncounted = walk.uncounted()
+    if uncounted and walk.random.random() < 0.5:
+        return walk.random.choice(uncounted)
+    return walk.some_desk(walk.open_desks()), walk.random.randrange(2)
+
+
 def feed_all(walk):
-    """The next symbols of a string that belongs to that sample; the string is kept for later calls."""
+    """The next symbols of a string that belongs to that sample; the string is kept for later calls. Now and then as many as the
+    depth, or one more, up to the first place that counts."""
     random = walk.random
-    desk, sample = walk.some_desk(walk.open_desks()), random.randrange(2)
+    desk, sample = some_sample(walk)
     sitting = walk.sitting_at(desk)
-    A = sitting.A if sitting else random.choice(ALPHABETS)
+    A, D = (sitting.A, sitting.D) if sitting else (random.choice(ALPHABETS), random.choice(DEPTHS))
     strings = walk.waiting.setdefault(desk, ([], []))
     if not strings[sample]:
         strings[sample][:] = drawn_sample(random, A, drawn_length(random))
-    count = random.choice([len(strings[sample]), random.randrange(len(strings[sample]) + 1), 3])
+    whole = len(strings[sample])
+    count = random.choice([whole, whole, random.randrange(whole + 1), random.choice([3, D, D + 1])])
     symbols = [walk.odd(symbol, often=0.001) for symbol in strings[sample][:count]]
     del strings[sample][:count]
     walk.play("feedall", desk, walk.odd(sample, often=0.01), *symbols)
@@ -116,10 +131,16 @@ def room(walk):
 
 
 def report(walk):
-    """A sheet that has just the room, a little less, or plenty; mostly of a sitting that has both samples."""
+    """A sheet that has just the room, a little less, or plenty; mostly of a sitting that a report is given on, now and then of
+    one with a sample that is too short. Where there is none to report on, as often more is fed instead."""
     random = walk.random
-    ready = [desk for desk in walk.open_desks() if all(walk.store.desks[desk].samples)]
-    desk = walk.some_desk(ready if ready and random.random() < 0.9 else walk.open_desks())
+    desks, uncounted = walk.open_desks(), walk.uncounted()
+    ready = [desk for desk in desks if desk not in dict(uncounted)]
+    short = [desk for desk, sample in uncounted if walk.store.desks[desk].too_short(sample)]
+    if desks and not ready and random.random() < 0.5:
+        feed_all(walk)
+        return
+    desk = walk.some_desk(weighted(random, [(ready or desks, 8), (short or desks, 1), (desks, 1)]))
     sitting = walk.sitting_at(desk)
     place = walk.odd(random.choice([0, 0, 1, random.randrange(20)]))
     needed = len(sitting.estimate()[0]) if sitting and all(sitting.samples) else 1
@@ -162,7 +183,7 @@ ACTS = [
     (feed, 6),
     (feed_all, 26),
     (feed_past_limit, 1),
-    (report, 12),
+    (report, 15),
     (chart, 12),
     (wrong_context, 2),
     (close, 5),

@@ -36,8 +36,9 @@ class Cases(unittest.TestCase):
         self.assertIn("longest\n2 1 2048 2048 3 -33792\n", printed(cases()))
 
     def test_each_refusal_is_among_them(self):
-        for number in (10, 11, 13, 14, 15, 16):
-            self.assertIn(f"refused {number}\n", printed(cases()))
+        text = printed(cases())
+        for number in (10, 11, 13, 14, 15, 16, 24):
+            self.assertIn(f"refused {number}\n", text)
 
     def test_names_say_the_contexts_held(self):
         named = {name: file for name, file in cases().items() if name.startswith("held-")}
@@ -54,5 +55,5 @@ class Cases(unittest.TestCase):
     def test_names_say_the_refusal(self):
         for name, file in cases().items():
             number = name.split("-")[0]
-            if number in ("10", "11", "13", "14", "15", "16"):
+            if number in ("10", "11", "13", "14", "15", "16", "24"):
                 self.assertEqual(printed({name: file}), f"{name}\nrefused {number}\n")

@@ -15,11 +15,11 @@ from reference import checks, counts, salvage, sitting_file, store
 from reference.answers import Lost, Refused, Shape, Written
 from reference.built import NOT_WRITTEN, BuiltSalvage
 from reference.checks import CHECKS, check_counts, check_held, check_longer_input, check_salvage, check_saved
-from reference.checks import check_smaller_limit, check_sound, header_by_forms
+from reference.checks import check_short, check_smaller_limit, check_sound, header_by_forms
 from reference.counts import before, contexts_at
 from reference.difference import Difference
-from reference.inputs import drawn_sitting, fixed_damages
-from reference.limits import ALPHABETS, DEPTHS, SAMPLE_LIMIT
+from reference.inputs import drawn_file, drawn_sitting, fixed_damages
+from reference.limits import ALPHABETS, DEPTHS, SAMPLE_LIMIT, SAMPLES
 from reference.program import INPUT_BYTES
 from reference.replay import accepted, by_sitting, replay_of
 from reference.salvage import losses
@@ -271,6 +271,50 @@ def one_place_early(sample, i, D):
     return contexts_at(sample, i, D) if i != D else [()]
 
 
+def shorter_than_depth(sitting, sample):
+    return 0 < len(sitting.samples[sample]) < sitting.D
+
+
+def one_longer_too(sitting, sample):
+    return 0 < len(sitting.samples[sample]) <= sitting.D + 1
+
+
+def first_alone(sitting, sample):
+    return sample == 0 and too_short(sitting, sample)
+
+
+def both_of_them(sitting, sample):
+    return all(too_short(sitting, one) for one in SAMPLES)
+
+
+too_short = store.OpenSitting.too_short
+WRONGLY_SHORT = [lambda sitting, sample: False, shorter_than_depth, one_longer_too, first_alone, both_of_them]
+
+reported = store.Store.report
+
+
+def before_11(made, desk, sheet, place):
+    """A sample that is too short goes before an empty one."""
+    short = any(made.desks[desk].too_short(sample) for sample in SAMPLES)
+    return Refused(24) if short else reported(made, desk, sheet, place)
+
+
+def after_12(made, desk, sheet, place):
+    """Rows that do not fit go before a sample that is too short."""
+    with patch.object(store.OpenSitting, "too_short", lambda *_: False):
+        answer = reported(made, desk, list(sheet), place)
+    return answer if answer == Refused(12) else reported(made, desk, sheet, place)
+
+
+def refused_after_writing(made, desk, sheet, place):
+    """The rows of a sample that is too short are written all the same."""
+    answer = reported(made, desk, sheet, place)
+    if answer == Refused(24):
+        with patch.object(store.OpenSitting, "too_short", lambda *_: False):
+            reported(made, desk, sheet, place)
+    return answer
+
+
 class Checks(unittest.TestCase):
     def test_each_draws_and_compares(self):
         for check, _ in CHECKS:
@@ -291,6 +335,28 @@ class Checks(unittest.TestCase):
         lengths = Counter(tuple(map(len, drawn_sitting(random).samples)) for _ in range(2000))
         self.assertGreater(lengths[SAMPLE_LIMIT, SAMPLE_LIMIT], 0)
         self.assertGreater(sum(count for pair, count in lengths.items() if max(pair) < 65), 1000)
+
+    def test_samples_around_the_depth_are_drawn(self):
+        """Most files have samples that are both longer than the depth; some have one that is too short, or just long enough."""
+        random = Random("around the depth")
+        shapes = [read(drawn_file(random)) for _ in range(1000)]
+        shortest = Counter("short" if 0 < min(n, m) <= D else "one more" if min(n, m) == D + 1 else "" for _, D, n, m in shapes)
+        self.assertGreater(shortest["short"], 30)
+        self.assertLess(shortest["short"], 100)
+        self.assertGreater(shortest["one more"], 30)
+
+    def test_other_samples_too_short_are_found(self):
+        for wrong in WRONGLY_SHORT:
+            definition = patch.object(store.OpenSitting, "too_short", wrong)
+            with self.subTest(wrong.__name__), definition, self.assertRaises(Difference):
+                for seed in range(200):
+                    check_short(Random(seed), Counter())
+
+    def test_other_orders_of_11_24_and_12_are_found(self):
+        for wrong in (before_11, after_12, refused_after_writing):
+            with self.subTest(wrong.__name__), patch.object(store.Store, "report", wrong), self.assertRaises(Difference):
+                for seed in range(200):
+                    check_short(Random(seed), Counter())
 
     def test_counts_not_renewed_by_a_feed_are_found(self):
         with patch.object(store, "count_place", lambda *_: None), self.assertRaises(Difference):
@@ -328,6 +394,7 @@ class Replay(unittest.TestCase):
             (call("open", 0, 2, 1, 3), ["done"]),
             (call("feedall", 0, 0, 0, 1, 0), ["fed 2 refused 10"]),
             (call("feedall", 1, 0, 0), ["fed 0 refused 4"]),
+            (call("report", 0, 22, 0), ["refused 24"]),
         ]
         kept = [(call("open", 0, 2, 1, 3), ["done"]), (call("feedall", 0, 0, 0, 1), ["fed 2 whole"])]
         self.assertEqual(accepted(steps), kept)

@@ -1,4 +1,4 @@
-"""Document 01's marked examples, worked anew by request E3, and its limits."""
+"""Document 01's marked examples, worked anew by requests E3 and E8, and its limits."""
 
 import unittest
 from math import floor, log2
@@ -77,7 +77,15 @@ class Examples(unittest.TestCase):
         self.assertEqual(estimate_of(0, "0101", "0101"), ([row(0, 0, 0, 4, 4)], -19456))
 
     def test_j5(self):
-        self.assertEqual(estimate_of(1, "0", "0"), ([row(1, 0, 0), row(2, 0, 0)], 0))
+        """A case of refusal 24: neither sample is longer than the depth. With one symbol more of each there is a report."""
+        sheet = [7] * 22
+        self.assertEqual(self.fed_store("0", "0", reservation=3).report(0, sheet, 0), Refused(24))
+        self.assertEqual(sheet, [7] * 22)
+        self.assertEqual(self.fed_store("00", "00", reservation=3).report(0, sheet, 0), Report(1, -2048))
+
+    def test_equal_samples_need_not_be_shared(self):
+        """L(1) is 0, so that contexts of their own cost nothing."""
+        self.assertEqual(estimate_of(0, "0", "0"), ([row(1, 0, 0, 1), row(2, 0, 0, 1)], 0))
 
 
 class Limits(unittest.TestCase):

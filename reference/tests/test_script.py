@@ -2,17 +2,18 @@
 
 import struct
 import unittest
+from collections import Counter
 from pathlib import Path
 from random import Random
 from unittest.mock import patch
 
-from reference.answers import Done, Refused
+from reference.answers import Done, Refused, Report
 from reference.built import SCRIPTS, answers_of
 from reference.contexts import children
 from reference.estimate import FIRST, SECOND, SHARED, Recursion, Scale
-from reference.limits import DESKS, SAMPLES
+from reference.limits import DESKS, ROW, SAMPLES
 from reference.logarithm import L
-from reference.script import SCRIPT_BYTES, BadScript, Call, Player, call, parse, play
+from reference.script import SCRIPT_BYTES, BadScript, Call, Player, answer_kind, call, parse, play
 from reference.store import Store
 from reference.walks import drawn_walk, every_length, spoilt_walk
 
@@ -59,6 +60,29 @@ def choices_at_root(sitting):
     return [scale.worth(SHARED, ()), separate, sum(weighed.joint(child)[0] for child in children((), sitting.A))]
 
 
+def choices_within(sitting, kind):
+    """The best scores of a leaf and of a split at the empty context of that sample's separate tree."""
+    scale = Scale(sitting)
+    weighed = Recursion(scale)
+    return [scale.worth(kind, ()), sum(weighed.own(kind, child)[0] for child in children((), sitting.A))]
+
+
+def reports_of_splits():
+    """The sittings that the script `splits` asks for a report on, with the words before each."""
+    player = Player()
+    for line in (SCRIPTS / "splits.script").read_text().splitlines():
+        words = line if line[0].isalpha() else words
+        for step in parse(line):
+            player.play(step)
+            if step.name == "report":
+                yield words, player.store.desks[step.numbers[0]].value()
+
+
+def length_word(length, D):
+    """A sample's length beside a depth above 1."""
+    return {0: "none", 1: "one", D: "as many", D + 1: "one more"}.get(length, "other")
+
+
 class Kept(unittest.TestCase):
     def test_answers(self):
         scripts = sorted(SCRIPTS.glob("*.script"))
@@ -80,16 +104,21 @@ class Kept(unittest.TestCase):
 
     def test_the_ties_that_splits_speaks_of(self):
         """Which choices at the empty context score best: 0 a shared leaf, 1 separate trees, 2 a split of both."""
-        player, best = Player(), {}
-        for line in (SCRIPTS / "splits.script").read_text().splitlines():
-            words = line if line[0].isalpha() else words
-            for step in parse(line):
-                player.play(step)
-                if step.name == "report":
-                    scores = choices_at_root(player.store.desks[step.numbers[0]].value())
-                    best[words] = [choice for choice, score in enumerate(scores) if score == max(scores)]
+        best = {}
+        for words, sitting in reports_of_splits():
+            scores = choices_at_root(sitting)
+            best[words] = [choice for choice, score in enumerate(scores) if score == max(scores)]
         tied = {words: choices for words, choices in best.items() if "score" in words}
         self.assertEqual(list(tied.values()), [[0, 1], [1, 2], [0, 2], [1, 2]], tied)
+
+    def test_a_leaf_and_a_split_tie_within_separate_trees(self):
+        """In that sitting of `splits` where separate splits score as much as separate leaves, and in no other."""
+        tied = [
+            words
+            for words, sitting in reports_of_splits()
+            if all(leaf == split for leaf, split in (choices_within(sitting, kind) for kind in (FIRST, SECOND)))
+        ]
+        self.assertEqual(tied, ["separate leaves, though separate splits and a split of both score as much"])
 
     def test_places_that_do_not_count_are_there(self):
         """The first place that counts is refused with 10 at an empty sitting, and a chart finds nothing before it."""
@@ -99,8 +128,24 @@ class Kept(unittest.TestCase):
 
     def test_every_refusal_is_there(self):
         text = "".join(path.read_text() for path in SCRIPTS.glob("*.answers"))
-        for number in [*range(1, 13), 17, 18]:
+        for number in [*range(1, 13), 17, 18, 24]:
             self.assertIn(f"refused {number}\n", text)
+
+    def test_24_is_there_in_its_order(self):
+        """For each sample alone and for both, after 11 and before 12, at the depth and one symbol more."""
+        asked = set()
+        for name in ("refusals", "limits"):
+            player = Player()
+            for step in parse((SCRIPTS / f"{name}.script").read_text()):
+                lines = player.play(step)
+                sitting = player.store.desks[step.numbers[0]] if step.name == "report" and step.numbers[0] in DESKS else None
+                if sitting and all(len(sample) <= 7 for sample in sitting.samples):
+                    asked.add((answer_kind(lines), sitting.D, *map(len, sitting.samples)))
+        refused = {("refused 24", 2, n, m) for n, m in [(1, 1), (2, 2), (3, 2), (1, 4), (2, 4)]}
+        refused |= {("refused 24", 1, 1, 2), ("refused 24", 1, 2, 1), ("refused 24", 6, 6, 7), ("refused 24", 6, 7, 6)}
+        others = {("refused 11", 2, 2, 0), ("refused 11", 2, 0, 1), ("refused 12", 2, 3, 3), ("refused 12", 2, 3, 4)}
+        answered = {("answered", D, n, m) for D, n, m in [(2, 3, 3), (2, 3, 4), (1, 2, 2), (6, 7, 7), (0, 1, 1)]}
+        self.assertEqual((refused | others | answered) - asked, set())
 
 
 class Walks(unittest.TestCase):
@@ -134,6 +179,32 @@ class Walks(unittest.TestCase):
             for seed in range(12):
                 drawn_walk(Random(seed))
         self.assertEqual(come, {(held, answer) for held in (False, True) for answer in (Done(), Refused(10))})
+
+    def test_walks_report_on_samples_around_the_depth(self):
+        """Each sample with one symbol and with as many as the depth gets 24, also where the rows would not fit, and beside
+        an empty one 11; with one symbol more there are reports. A good share of all reports is given, and some get 24."""
+        come, kinds = set(), Counter()
+
+        def report(store, desk, sheet, place):
+            answer = reported(store, desk, sheet, place)
+            sitting = store.desks[desk] if desk in DESKS else None
+            kind = "answered" if isinstance(answer, Report) else answer.number
+            kinds[kind] += 1
+            if sitting and sitting.D > 1:
+                come.update((kind, i, length_word(len(sitting.samples[i]), sitting.D)) for i in SAMPLES)
+                if answer == Refused(24) and place + len(sitting.estimate()[0]) > len(sheet) // ROW:
+                    come.add("24 before 12")
+            return answer
+
+        reported = Store.report
+        with patch.object(Store, "report", report):
+            for seed in range(60):
+                drawn_walk(Random(seed))
+        lengths = [(24, "one"), (24, "as many"), (11, "one"), (11, "as many"), ("answered", "one more")]
+        expected = {(kind, i, length) for kind, length in lengths for i in SAMPLES}
+        self.assertEqual((expected | {"24 before 12"}) - come, set())
+        self.assertGreater(kinds["answered"], 0.35 * sum(kinds.values()), kinds)
+        self.assertGreater(kinds[24], 0.05 * sum(kinds.values()), kinds)
 
     def test_answers_are_parted_by_call(self):
         walk = drawn_walk(Random(7), unmade=True)

@@ -1,7 +1,8 @@
-"""Refusals 1 to 12, 17 and 18, the sheet and the chart."""
+"""Refusals 1 to 12, 17, 18 and 24, the sheet and the chart."""
 
 import unittest
 from fractions import Fraction
+from itertools import product
 
 from reference.answers import Both, Done, First, Neither, Refused, Report, Room, Second
 from reference.contexts import code, strings_up_to
@@ -102,9 +103,44 @@ class Refusals(unittest.TestCase):
         self.assertEqual(store.desks[0].held, set())
         asked = [(s, store.chart(0, len(s), code(s), 1)) for s in strings_up_to(2, 3)]
         self.assertEqual(asked, [(s, Neither()) for s in strings_up_to(2, 3)])
-        sheet = [7] * 22
-        self.assertEqual(store.report(0, sheet, 0).rows, 1)
-        self.assertEqual(sheet, [0] * 11 + [7] * 11)
+
+    def test_24_by_the_lengths_of_both_samples(self):
+        """11 where one is empty, then 24 where one has no more symbols than the depth; with one more of each there is a report."""
+        for D in range(7):
+            for lengths in product(range(D + 3), repeat=2):
+                store = store_with(D=D)
+                for sample, length in enumerate(lengths):
+                    feed_all(store, sample, "0" * length)
+                sheet = [7] * 22
+                answer = store.report(0, sheet, 0)
+                if min(lengths) > D:
+                    self.assertIsInstance(answer, Report)
+                else:
+                    number = 11 if min(lengths) == 0 else 24
+                    self.assertEqual((answer, sheet), (Refused(number), [7] * 22), (D, lengths))
+
+    def test_24_is_told_of_one_sample(self):
+        sitting = store_with(D=2).desks[0]
+        told = []
+        for _ in range(4):
+            told.append([sitting.too_short(sample) for sample in (0, 1)])
+            sitting.feed(1, 0)
+        self.assertEqual(told, [[False, False], [False, True], [False, True], [False, False]])
+
+    def test_24_goes_before_12(self):
+        store = store_with(D=2)
+        feed_all(store, 0, "010")
+        feed_all(store, 1, "01")
+        self.assertEqual([store.report(0, [], 0), store.report(0, [7] * 10, 99)], [Refused(24)] * 2)
+        feed_all(store, 1, "0")
+        self.assertEqual([store.report(0, [], 0), store.report(0, [7] * 10, 99)], [Refused(12)] * 2)
+        self.assertIsInstance(store.report(0, [7] * 22, 0), Report)
+
+    def test_24_is_for_reports_alone(self):
+        store = store_with(D=2)
+        self.assertEqual(feed_all(store, 0, "01") + feed_all(store, 1, "0"), [Done()] * 3)
+        self.assertEqual(store.report(0, [7] * 22, 0), Refused(24))
+        self.assertEqual([store.chart(0, 0, 0, 0), store.room(), store.close(0)], [Neither(), Room(90), Done()])
 
     def test_11_goes_before_12(self):
         store = store_with()
