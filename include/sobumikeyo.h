@@ -12,10 +12,11 @@
  *
  *     make, open, feed or feed_all, report and chart, close
  *
- * Each function answers 0, or the number of a refusal from the list below. A
+ * Each function answers 0, or the number of a refusal from the lists below. A
  * refused call writes nothing: store, sheet, file and outputs stay as they were.
- * Where several refusals apply, the lowest number is given. Two functions answer
- * something else: sobumikeyo_feed_all and sobumikeyo_sound.
+ * Where several refusals apply, the one that comes first in its list is given. The
+ * numbers rise there, but for 24: the order of a report is 1, 2, 4, 11, 24, 12. Two
+ * functions answer something else: sobumikeyo_feed_all and sobumikeyo_sound.
  *
  * All memory is the caller's. No function allocates or keeps a pointer. A slice is
  * a pointer and how many elements it has, not how many bytes; no pointer may be
@@ -52,6 +53,7 @@ extern "C" {
 #define SOBUMIKEYO_SAMPLE_FULL 9       /* the sample has 2048 symbols */
 #define SOBUMIKEYO_PAST_RESERVATION 10 /* the feed needs more contexts than are reserved */
 #define SOBUMIKEYO_SAMPLE_EMPTY 11     /* a report while either sample is empty */
+#define SOBUMIKEYO_SAMPLE_SHORT 24     /* a report while either has symbols, but no more than the depth */
 #define SOBUMIKEYO_SHEET_SHORT 12      /* the rows do not fit the sheet from that place on */
 
 /* The refusals of sitting files; of a file that is read or salvaged, the first fault from the left. */
@@ -102,7 +104,8 @@ uint32_t sobumikeyo_room(const uint32_t *store, size_t store_len, uint32_t *left
 /* Writes the report's rows from row `place` of the sheet on; no number outside those rows is written. */
 /* `rows` is how many there are, and `score` the doubled score, which is never above 0. */
 /* A row's code is the sum of symbol times 8^j, where j is 0 for the most recent symbol of its context. */
-/* Its counts are those of the places from depth + 1 on: all 0 where no sample has more than `depth` symbols. */
+/* Its counts are those of the places from depth + 1 on. Where a sample has no such place there is no report: */
+/* 11 where it is empty, then 24 where it has symbols, but no more than `depth`; both go before 12. */
 uint32_t sobumikeyo_report(const uint32_t *store, size_t store_len, uint32_t desk, uint32_t *sheet, size_t sheet_len, uint32_t place, uint32_t *rows, int64_t *score);
 
 /* How often, of the times that a sample saw the context of that length and code, the symbol came next: places from depth + 1 on. */

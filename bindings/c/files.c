@@ -1,6 +1,6 @@
 // Sitting files from C, by the header: refused calls leave what is lent, document 01's example is written, and it reads back. Spoilt
-// and cut it is salvaged, and reads back too. The longest samples are written, read and fed, and one symbol more is refused. Answers 0
-// where all is so.
+// and cut it is salvaged, and reads back too. The longest samples are written, read and fed, and one symbol more is refused. Samples
+// too short for a report are refused, and one symbol more is enough. Answers 0 where all is so.
 #include "sobumikeyo.h"
 #include <stdio.h>
 #include <string.h>
@@ -73,7 +73,7 @@ enum { LONGEST = 2048, TOO_MANY = LONGEST + 1, MOST = SOBUMIKEYO_FILE_ROOM(TOO_M
 
 static const uint8_t acts[TOO_MANY]; // all 0
 static uint8_t long_file[MOST];
-static uint32_t store[SOBUMIKEYO_STORE_SIZE(1)];
+static uint32_t store[SOBUMIKEYO_STORE_SIZE(2)];
 
 static uint32_t write_long(size_t n, size_t m) { return sobumikeyo_write(acts, n, acts, m, 2, 0, long_file, MOST, &written); }
 
@@ -98,4 +98,29 @@ static int longest_samples(void) {
     return 0;
 }
 
-int main(void) { return writing() || salvaging() || longest_files() || longest_samples(); }
+enum { TWO = SOBUMIKEYO_STORE_SIZE(2), SHEET = 2 * SOBUMIKEYO_ROW_WIDTH };
+
+static uint32_t sheet[SHEET], blank_sheet[SHEET], rows;
+static int64_t score;
+
+static uint32_t feed_and_report(uint32_t sample, size_t sheet_len) {
+    if (sobumikeyo_feed(store, TWO, 0, sample, 0)) return UNTOLD;
+    return sobumikeyo_report(store, TWO, 0, sheet, sheet_len, 0, &rows, &score);
+}
+
+static int short_samples(void) {
+    memset(sheet, BLANK, sizeof sheet);
+    memset(blank_sheet, BLANK, sizeof blank_sheet);
+    rows = UNTOLD;
+    score = UNTOLD;
+    if (sobumikeyo_make(store, TWO, 2) || sobumikeyo_open(store, TWO, 0, 2, 1, 2)) return wrong("a desk is opened at depth 1");
+    if (feed_and_report(0, SHEET) != SOBUMIKEYO_SAMPLE_EMPTY) return wrong("an empty sample gets 11 before one too short gets 24");
+    if (feed_and_report(1, SHEET) != SOBUMIKEYO_SAMPLE_SHORT) return wrong("samples of one symbol get 24 at depth 1");
+    if (feed_and_report(0, 0) != SOBUMIKEYO_SAMPLE_SHORT) return wrong("one too short gets 24 before a short sheet gets 12");
+    if (rows != UNTOLD || score != UNTOLD || memcmp(sheet, blank_sheet, sizeof sheet)) return wrong("a refused report writes nothing");
+    if (feed_and_report(1, 0) != SOBUMIKEYO_SHEET_SHORT) return wrong("with two symbols of each a short sheet gets 12");
+    if (feed_and_report(1, SHEET) || rows != 1) return wrong("on a sheet that is long enough the report is given");
+    return 0;
+}
+
+int main(void) { return writing() || salvaging() || longest_files() || longest_samples() || short_samples(); }

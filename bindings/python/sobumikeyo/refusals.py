@@ -2,7 +2,8 @@
 
 
 class Refusal(Exception):
-    """Why a call was refused. A refused call changes nothing.
+    """Why a call was refused. A refused call changes nothing. Where several refusals apply, the first is
+    given, in the order that docs/REFUSALS.md has for each call.
 
     >>> Refusal(4).number
     4
@@ -135,5 +136,9 @@ WORDS = {
     19: (
         "The bytes lent are fewer than the file to be written or saved has.",
         "Lend as many bytes as the two samples have symbols and 6 more; for a salvage, as many as the damaged file has.",
+    ),
+    24: (
+        "A sample has symbols, but no more than the depth, so none of them counts.",
+        "Feed each of the two samples more symbols than the depth before the report, or take a smaller depth.",
     ),
 }

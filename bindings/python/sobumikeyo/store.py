@@ -131,7 +131,21 @@ class Store:
         return left.value
 
     def report(self, desk):
-        """The report on a desk."""
+        """The report on a desk. Each sample must have more symbols than the depth: where one is empty the
+        report is refused with 11, and where one has no more than the depth with 24.
+
+        >>> store = Store(8)
+        >>> store.open(0, alphabet=2, depth=1, reservation=8)
+        >>> for sample in Sample:
+        ...     store.feed(0, sample, 0)
+        >>> store.report(0)
+        Traceback (most recent call last):
+        sobumikeyo.refusals.Refusal: refused 24: A sample has symbols, but no more than the depth, so none of them counts. Feed each of the two samples more symbols than the depth before the report, or take a smaller depth.
+        >>> for sample in Sample:
+        ...     store.feed(0, sample, 0)
+        >>> store.report(0).score
+        -2048
+        """
         sheet = (c_uint32 * (SHEET_ROWS * ROW_WIDTH))()
         rows, score = self.report_on(desk, sheet, 0)
         return Report(tuple(row_of(sheet[ROW_WIDTH * row : ROW_WIDTH * (row + 1)]) for row in range(rows)), score)

@@ -1,8 +1,9 @@
-"""Document 01's marked examples, J2 and J5 as request E3 works them anew: places are counted from D+1 on."""
+"""Document 01's marked examples, J2 as request E3 works it anew, since places are counted from D+1 on, and J5 as request E8
+does: samples no longer than D get no report."""
 
 import unittest
 
-from sobumikeyo import Chart, Context, Kind, Sample, Stopped, Store
+from sobumikeyo import Chart, Context, Kind, Refusal, Sample, Stopped, Store
 
 SHARED, FIRST, SECOND = Kind
 
@@ -57,8 +58,14 @@ class Marked(unittest.TestCase):
     def test_j4_no_memory(self):
         self.check(report(0, [0, 1, 0, 1], [0, 1, 0, 1]), [(SHARED, [], (4, 4))], -19456)
 
-    def test_j5_equal_samples_need_not_be_shared(self):
-        self.check(report(1, [0], [0]), [(FIRST, [], (0, 0)), (SECOND, [], (0, 0))], 0)
+    def test_j5_no_longer_than_the_depth(self):
+        with self.assertRaises(Refusal) as refused:
+            report(1, [0], [0])
+        self.assertEqual(refused.exception.number, 24)
+
+    def test_equal_samples_need_not_be_shared(self):
+        """Of one symbol each, at depth 0: L(1) is 0, so that contexts of their own cost nothing."""
+        self.check(report(0, [0], [0]), [(FIRST, [], (1, 0)), (SECOND, [], (1, 0))], 0)
 
 
 if __name__ == "__main__":

@@ -98,6 +98,11 @@ class Refusals(unittest.TestCase):
         store.feed(0, Sample.FIRST, 0)
         self.refused(11, store, "report", 0)
         store.feed(0, Sample.SECOND, 0)
+        self.refused(24, store, "report", 0)
+        self.refused(24, store, "report_on", 0, array("I"), 0)
+        for sample in Sample:
+            self.refused(24, store, "report", 0)
+            store.feed_all(0, sample, [0, 0])
         rows = len(store.report(0).rows)
         blank = array("I", [7] * (ROW_WIDTH * (2 + rows) + ROW_WIDTH - 1))
         sheet = array("I", blank)
@@ -156,7 +161,7 @@ class Refusals(unittest.TestCase):
         table = (REPOSITORY / "docs" / "REFUSALS.md").read_text()
         rows = re.findall(r"^\| (\d+) \| (.*) \| (.*) \|$", table, re.MULTILINE)
         self.assertEqual(WORDS, {int(number): (happened, advice) for number, happened, advice in rows})
-        self.assertEqual(sorted(WORDS), list(range(1, 20)))
+        self.assertEqual(sorted(WORDS), [*range(1, 20), 24])
 
 
 if __name__ == "__main__":

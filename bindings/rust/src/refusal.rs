@@ -2,7 +2,8 @@
 use std::error::Error;
 use std::fmt;
 
-/// Why a call was refused. A refused call changes nothing.
+/// Why a call was refused. A refused call changes nothing. Where several refusals apply, the first is given, in the order that
+/// `docs/REFUSALS.md` has for each call.
 ///
 /// ```
 /// let refusal = sobumikeyo::Store::new(0).unwrap_err();
@@ -26,7 +27,7 @@ impl Refusal {
     /// The refusal that `Context::of` gives for what no sitting can have.
     pub(crate) const NOT_OF_SITTING: Refusal = Refusal { number: 8 };
 
-    /// Its number, 1 to 19; never 0.
+    /// Its number in the table of `docs/REFUSALS.md`; never 0.
     pub fn number(self) -> u32 {
         self.number
     }
@@ -42,7 +43,7 @@ impl Refusal {
     }
 
     fn words(self) -> (&'static str, &'static str) {
-        *WORDS.get(self.number as usize - 1).unwrap_or(&UNKNOWN)
+        WORDS.iter().find(|words| words.0 == self.number).map_or(UNKNOWN, |&(_, happened, advice)| (happened, advice))
     }
 }
 
@@ -80,49 +81,61 @@ impl From<Stopped> for Refusal {
 /// A number that the table does not have can come from a library of another version alone.
 const UNKNOWN: (&str, &str) = ("This is no refusal that is known here.", "See that the library is the one of this crate.");
 
-/// What happened and what to do, refusal 1 first.
-const WORDS: [(&str, &str); 19] = [
+/// What happened and what to do, by number.
+const WORDS: [(u32, &str, &str); 20] = [
     (
+        1,
         "The store was never made, or its numbers were changed from outside.",
         "Make it anew, or go back to a copy that was kept; only the calls may write to it.",
     ),
-    ("There is no such desk.", "Name a desk from 0 to 7."),
-    ("The desk is already open.", "Close it first, or open another."),
-    ("The desk is not open.", "Open it first."),
-    ("The alphabet or the depth is outside its limits.", "Name an alphabet of 2 to 8 symbols and a depth from 0 to 6."),
-    ("The reservation is 0, or more than the store has room for.", "Reserve at least 1 context and at most the store's room."),
-    ("The reservation is more than the room left.", "Reserve less, or close a desk that has done its work."),
+    (2, "There is no such desk.", "Name a desk from 0 to 7."),
+    (3, "The desk is already open.", "Close it first, or open another."),
+    (4, "The desk is not open.", "Open it first."),
+    (5, "The alphabet or the depth is outside its limits.", "Name an alphabet of 2 to 8 symbols and a depth from 0 to 6."),
+    (6, "The reservation is 0, or more than the store has room for.", "Reserve at least 1 context and at most the store's room."),
+    (7, "The reservation is more than the room left.", "Reserve less, or close a desk that has done its work."),
     (
+        8,
         "The sitting has no such sample, symbol or context.",
         "Name sample 0 or 1, symbols below the alphabet's size, and contexts no longer than the depth.",
     ),
-    ("The sample already has 2,048 symbols.", "Feed it no more; further acts need a sitting of their own."),
+    (9, "The sample already has 2,048 symbols.", "Feed it no more; further acts need a sitting of their own."),
     (
+        10,
         "The sitting would have more contexts than it reserved.",
         "Reserve more at opening, or take a smaller depth, and feed both samples again.",
     ),
-    ("A sample is still empty.", "Feed each of the two samples at least one symbol before the report."),
-    ("The report's rows do not fit the sheet.", "Lend a longer sheet, or begin at an earlier row."),
+    (11, "A sample is still empty.", "Feed each of the two samples at least one symbol before the report."),
+    (12, "The report's rows do not fit the sheet.", "Lend a longer sheet, or begin at an earlier row."),
     (
+        13,
         "The file ends too early.",
         "See that all of it was copied, and that it has as many symbols as its header says. \
          Where the header is whole, a salvage keeps what is there.",
     ),
     (
+        14,
         "A number in the file is not in its shortest form.",
         "Write it in as few bytes as it needs, which is never more than two. If it is a symbol, a salvage keeps its sample up to it.",
     ),
     (
+        15,
         "A number of the file, read or to be written, is outside its limits.",
         "Keep the alphabet from 2 to 8, the depth to 6, each length to 2,048, and each symbol below the alphabet's size. \
          If it is a symbol in a file, a salvage keeps its sample up to it.",
     ),
-    ("The file goes on after its last symbol.", "Take the last bytes away, as a salvage does, or correct the lengths in its header."),
-    ("The room asked for is outside its limits.", "Ask for room for 1 to 4,096 contexts."),
-    ("Too few numbers were lent for the store.", "Lend at least 2,048 numbers and 24 more for each context of its room."),
+    (16, "The file goes on after its last symbol.", "Take the last bytes away, as a salvage does, or correct the lengths in its header."),
+    (17, "The room asked for is outside its limits.", "Ask for room for 1 to 4,096 contexts."),
+    (18, "Too few numbers were lent for the store.", "Lend at least 2,048 numbers and 24 more for each context of its room."),
     (
+        19,
         "The bytes lent are fewer than the file to be written or saved has.",
         "Lend as many bytes as the two samples have symbols and 6 more; for a salvage, as many as the damaged file has.",
+    ),
+    (
+        24,
+        "A sample has symbols, but no more than the depth, so none of them counts.",
+        "Feed each of the two samples more symbols than the depth before the report, or take a smaller depth.",
     ),
 ];
 
@@ -131,24 +144,24 @@ mod tests {
     use super::*;
 
     /// The rows of the table in docs/REFUSALS.md: number, what happened, what to do.
-    fn table() -> Vec<(String, String, String)> {
+    fn table() -> Vec<(u32, &'static str, &'static str)> {
         include_str!("../../../docs/REFUSALS.md")
             .lines()
             .filter_map(|line| {
                 let cells: Vec<&str> = line.split('|').map(str::trim).collect();
-                let row = cells.len() == 5 && cells[1].parse::<u32>().is_ok();
-                row.then(|| (cells[1].to_string(), cells[2].to_string(), cells[3].to_string()))
+                let number = if cells.len() == 5 { cells[1].parse().ok() } else { None };
+                number.map(|number| (number, cells[2], cells[3]))
             })
             .collect()
     }
 
     #[test]
     fn the_words_are_the_tables() {
-        let ours: Vec<_> = (1..=19)
-            .map(|number| Refusal { number })
-            .map(|refusal| (refusal.number.to_string(), refusal.happened().to_string(), refusal.advice().to_string()))
-            .collect();
-        assert_eq!(ours, table());
+        assert_eq!(WORDS[..], table());
+        for (number, happened, advice) in WORDS {
+            let refusal = Refusal { number };
+            assert_eq!((refusal.happened(), refusal.advice()), (happened, advice));
+        }
     }
 
     #[test]

@@ -152,7 +152,21 @@ impl Store {
         Ok(left)
     }
 
-    /// The report on a desk.
+    /// The report on a desk. Each sample must have more symbols than the depth: where one is empty the report is refused with 11, and where one
+    /// has no more than the depth with 24.
+    ///
+    /// ```
+    /// use sobumikeyo::{Desk, Sample, Store};
+    ///
+    /// let mut store = Store::new(8)?;
+    /// store.open(Desk(0), 2, 1, 8)?;
+    /// store.feed_all(Desk(0), Sample::FIRST, &[0, 0])?;
+    /// store.feed(Desk(0), Sample::SECOND, 0)?;
+    /// assert_eq!(store.report(Desk(0)).unwrap_err().number(), 24);
+    /// store.feed(Desk(0), Sample::SECOND, 0)?;
+    /// assert_eq!(store.report(Desk(0))?.score, -2048);
+    /// # Ok::<(), sobumikeyo::Refusal>(())
+    /// ```
     pub fn report(&self, desk: Desk) -> Result<Report, Refusal> {
         let mut sheet = [0; SHEET_ROWS * ROW_WIDTH];
         let (rows, score) = self.report_on(desk, &mut sheet, 0)?;

@@ -1,4 +1,5 @@
-//! Document 01's marked examples, J2 and J5 as request E3 works them anew: places are counted from D+1 on.
+//! Document 01's marked examples, J2 as request E3 works it anew, since places are counted from D+1 on, and J5 as request E8 does: samples
+//! no longer than D get no report.
 use sobumikeyo::Kind::{First, Second, Shared};
 use sobumikeyo::{Chart, Context, Desk, Kind, Point, Report, Sample, Store};
 
@@ -83,8 +84,14 @@ fn j4_no_memory() {
 }
 
 #[test]
-fn j5_equal_samples_need_not_be_shared() {
-    let told = report(1, &[0], &[0]);
-    assert_eq!(rows(&told), [(First, vec![], [0, 0]), (Second, vec![], [0, 0])]);
+fn j5_no_longer_than_the_depth() {
+    assert_eq!(sitting(1, 3, &[0], &[0]).report(DESK).unwrap_err().number(), 24);
+}
+
+/// Of one symbol each, at depth 0: L(1) is 0, so that contexts of their own cost nothing.
+#[test]
+fn equal_samples_need_not_be_shared() {
+    let told = report(0, &[0], &[0]);
+    assert_eq!(rows(&told), [(First, vec![], [1, 0]), (Second, vec![], [1, 0])]);
     assert_eq!(told.score, 0);
 }

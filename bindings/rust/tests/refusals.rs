@@ -100,6 +100,11 @@ fn reports() {
     store.feed(DESK, Sample::FIRST, 0).unwrap();
     refused(11, &mut store, |s| s.report(DESK));
     store.feed(DESK, Sample::SECOND, 0).unwrap();
+    refused(24, &mut store, |s| s.report_on(DESK, &mut [], 0));
+    for sample in [Sample::FIRST, Sample::SECOND] {
+        refused(24, &mut store, |s| s.report(DESK));
+        store.feed_all(DESK, sample, &[0, 0]).unwrap();
+    }
     let rows = store.report(DESK).unwrap().rows.len();
     let mut sheet = vec![7; 11 * (2 + rows) + 10];
     assert_eq!(store.report_on(DESK, &mut sheet, 3).unwrap_err().number(), 12);
