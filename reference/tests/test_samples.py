@@ -15,7 +15,7 @@ from reference import salvage
 from reference.counts import total
 from reference.inputs import spoilt_at
 from reference.program import output
-from reference.sitting_file import read, samples_of
+from reference.sitting_file import read, samples_of, write
 
 REPOSITORY = Path(__file__).resolve().parents[2]
 SAMPLES = REPOSITORY / "samples"
@@ -59,6 +59,18 @@ class Samples(unittest.TestCase):
             self.assertIn(f"## `{file.name}`\n\n```\n{output(file.read_bytes())}```\n", readme)
 
 
+    def test_too_few_with_an_act_less_is_refused(self):
+        """As its section says, of either string or of both."""
+        section = (SAMPLES / "README.md").read_text().partition("## `too_few.sitting`")[2].partition("\n## ")[0]
+        file = (SAMPLES / "too_few.sitting").read_bytes()
+        shape = read(file)
+        first, second = samples_of(file, shape)
+        for n, m in [(2, 3), (3, 2), (2, 2)]:
+            printed = output(write(shape.A, shape.D, first[:n], second[:m]))
+            self.assertEqual(printed, "refused 24\n")
+            self.assertIn(f"\n```\n{printed}```\n", section)
+
+
 class Damaged(unittest.TestCase):
     """The section about damaged.sitting: each number in it, by the second program."""
 
@@ -99,6 +111,14 @@ class Damaged(unittest.TestCase):
         crate = REPOSITORY / "crates" / "salvaging"
         self.assertEqual((crate / "stdin").read_bytes(), (SAMPLES / "damaged.sitting").read_bytes())
         self.assertEqual((crate / "stdout").read_bytes(), salvage.output((crate / "stdin").read_bytes())[0])
+
+    def test_what_is_saved_of_a_shorter_file(self):
+        """With no more acts of the learner than the depth it gets 24, and with none 11."""
+        depth = self.damaged[1]
+        for kept, number in [(0, 11), (1, 24), (depth, 24)]:
+            saved = salvage.output(spoilt_at(self.damaged, 4 + kept, 0xFF))[0]
+            self.assertEqual((len(self.samples(saved)[0]), output(saved)), (kept, f"refused {number}\n"))
+            self.assertIn(f"`refused {number}`", self.words)
 
     def test_the_report_of_what_is_saved(self):
         report = output(self.saved)

@@ -64,8 +64,8 @@ def read_report(text):
     if re.fullmatch(r"refused \d+", lines[0]):
         raise Malformed(f"there is nothing to draw: the program {lines[0]} (docs/REFUSALS.md says what that means)")
     A, D, n, m, many, score = numbers_of(lines[0], 1, ("A", "D", "n", "m", "row count", "score"))
-    if A not in ALPHABETS or D not in DEPTHS or n < 1 or m < 1 or score > 0:
-        raise Malformed("line 1: A is 2 to 8, D 0 to 6, n and m at least 1, and the score never above 0")
+    if A not in ALPHABETS or D not in DEPTHS or min(n, m) <= D or score > 0:
+        raise Malformed("line 1: A is 2 to 8, D 0 to 6, n and m are above D, and the score never above 0")
     if many != len(lines) - 1:
         raise Malformed(f"line 1 announces {many} rows, and {len(lines) - 1} follow")
     rows = tuple(read_row(line, place, A, D) for place, line in enumerate(lines[1:], start=2))

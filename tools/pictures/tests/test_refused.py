@@ -19,7 +19,9 @@ MALFORMED = [
     ("2 1 8 8 3\n", "line 1 should be 6 whole numbers"),
     ("2 1 8 8 3 -20176 \n", "line 1 should be 6 whole numbers"),
     ("9 1 8 8 0 0\n", "A is 2 to 8"),
-    ("2 1 8 0 0 0\n", "at least 1"),
+    ("2 1 8 0 0 0\n", "n and m are above D"),
+    ("2 1 1 8 1 0\n0 0 0 7 0\n", "n and m are above D"),
+    ("2 6 8 6 1 0\n0 0 0 2 0\n", "n and m are above D"),
     ("2 1 8 8 3 5\n", "never above 0"),
     (GOOD.replace("8 3 -", "8 4 -"), "announces 4 rows, and 3 follow"),
     (GOOD.replace("5 0", "5 0 0"), "line 4 should be 5 whole numbers"),
@@ -117,6 +119,8 @@ class Refused(unittest.TestCase):
         with tempfile.TemporaryDirectory() as folder:
             Path(folder, "short").write_bytes(ALIKE.read_bytes()[:-1])
             self.refused("there is nothing to draw: refused 13: The file ends too early. ", Path(folder, "short"))
+            Path(folder, "few").write_bytes(bytes([2, 1, 1, 2, 0, 0, 1]))
+            self.refused("there is nothing to draw: refused 24: ", Path(folder, "few"))
 
 
 if __name__ == "__main__":
