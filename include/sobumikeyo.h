@@ -14,8 +14,8 @@
  *
  * Each function answers 0, or the number of a refusal from the lists below. A
  * refused call writes nothing: store, sheet, file and outputs stay as they were.
- * Where several refusals apply, the one that comes first in its list is given. The
- * numbers rise there, but for 24: the order of a report is 1, 2, 4, 11, 24, 12. Two
+ * Where several refusals apply, the first in the order given is given: that of the
+ * lists, where the numbers rise but for 24 (a report: 1, 2, 4, 11, 24, 12). Two
  * functions answer something else: sobumikeyo_feed_all and sobumikeyo_sound.
  *
  * All memory is the caller's. No function allocates or keeps a pointer. A slice is

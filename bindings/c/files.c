@@ -22,7 +22,7 @@ static uint32_t write_in(uint32_t alphabet, size_t room) {
 }
 
 static int wrong(const char *what) {
-    fprintf(stderr, "sitting files from C: not so: %s\n", what);
+    fprintf(stderr, "from C, by the header: not so: %s\n", what);
     return 1;
 }
 

@@ -58,7 +58,6 @@ class Samples(unittest.TestCase):
         for file in SAMPLES.glob("*.sitting"):
             self.assertIn(f"## `{file.name}`\n\n```\n{output(file.read_bytes())}```\n", readme)
 
-
     def test_too_few_with_an_act_less_is_refused(self):
         """As its section says, of either string or of both."""
         section = (SAMPLES / "README.md").read_text().partition("## `too_few.sitting`")[2].partition("\n## ")[0]

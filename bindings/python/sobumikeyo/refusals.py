@@ -2,8 +2,8 @@
 
 
 class Refusal(Exception):
-    """Why a call was refused. A refused call changes nothing. Where several refusals apply, the first is
-    given, in the order that docs/REFUSALS.md has for each call.
+    """Why a call was refused. A refused call changes nothing. Where several refusals apply, the first
+    in the order given is given; docs/REFUSALS.md has the order for each call.
 
     >>> Refusal(4).number
     4
@@ -100,7 +100,7 @@ WORDS = {
     ),
     11: (
         "A sample is still empty.",
-        "Feed each of the two samples at least one symbol before the report.",
+        "Feed each of the two samples more symbols than the depth before the report.",
     ),
     12: (
         "The report's rows do not fit the sheet.",

@@ -2,8 +2,8 @@
 use std::error::Error;
 use std::fmt;
 
-/// Why a call was refused. A refused call changes nothing. Where several refusals apply, the first is given, in the order that
-/// `docs/REFUSALS.md` has for each call.
+/// Why a call was refused. A refused call changes nothing. Where several refusals apply, the first in the order given is given;
+/// `docs/REFUSALS.md` has the order for each call.
 ///
 /// ```
 /// let refusal = sobumikeyo::Store::new(0).unwrap_err();
@@ -105,7 +105,7 @@ const WORDS: [(u32, &str, &str); 20] = [
         "The sitting would have more contexts than it reserved.",
         "Reserve more at opening, or take a smaller depth, and feed both samples again.",
     ),
-    (11, "A sample is still empty.", "Feed each of the two samples at least one symbol before the report."),
+    (11, "A sample is still empty.", "Feed each of the two samples more symbols than the depth before the report."),
     (12, "The report's rows do not fit the sheet.", "Lend a longer sheet, or begin at an earlier row."),
     (
         13,

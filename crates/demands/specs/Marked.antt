@@ -104,8 +104,8 @@ given (q gives a) = expected q a
 abbrev pub AllHold : List Example → Type 0
 AllHold es = map asked es ≡ map given es
 
--- the six values with that of 4,096 (request E2), and J1 to J5 as E3 works them; J1 "needs r 3; with r 2 the third feed of the first sample gets 10",
--- and "the empty context's counts become (1,2) in each sample"; "J5 becomes a case of this refusal" (E8)
+-- the six values with that of 4,096 (request E2), J1 to J4 as E3 works them, and J5, which is refused with 24 (E8); J1 "needs r 3; with r 2 the third feed of
+-- the first sample gets 10", and "the empty context's counts become (1,2) in each sample"
 unfoldable pub marked : List Example
 marked =
     logarithm 1 gives value 0

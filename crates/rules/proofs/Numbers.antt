@@ -1,4 +1,4 @@
--- Each table of a call at a store has exactly its written list of numbers, in this order. Assumes nothing.
+-- Each table of a call at a store has exactly its written list of numbers, in this order; an ask's at a desk that is not open has it up to 4. Assumes nothing.
 use Prim.Native.Nat.{ℕ}
 use mathlib.Core.Path.{_≡_, refl}
 use mathlib.Core.Bool.{cond}
@@ -23,7 +23,7 @@ at-sitting d o p (feed i a) = refl
 at-sitting d o p (reporting sheet place) = refl
 at-sitting d o p (charting len code a) = refl
 
--- THEOREM. The numbers of a call's table are those of its list, in this order
+-- THEOREM. The numbers of a call's table are those of its list, in this order; `orderIn` says how far
 pub in-order : (ρ : Room Progress) (c : Call rules) → numbersIn (tableOf rules ρ c) ≡ orderIn ρ c
 unfolding orderOf orderIn tableOf tableAt openingTable askingTable closingTable ownLines
 in-order ρ (atDesk d (opening o)) = refl

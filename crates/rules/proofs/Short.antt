@@ -1,10 +1,10 @@
--- A sample is too short exactly where it has symbols and none of them is counted; with D 0 none is. Assumes nothing.
+-- A sample is too short exactly where it has symbols and none of them is counted; with D 0 no report is refused for it. Assumes nothing.
 use Prim.Native.Nat.{ℕ, _+_, _≤_, _<_}
 use native.Mathlib.Omega.{arith}
 use native.Mathlib.Decide.{decLe}
 use mathlib.Core.Path.{_≡_, refl}
 use mathlib.Core.Logic.{_↔_}
-use mathlib.Core.Bool.{Bool, true, false, _&&_, _||_}
+use mathlib.Core.Bool.{Bool, true, false, cond, _&&_, _||_}
 use mathlib.Core.List.{List, [], _∷_}
 use borrow.Author.Tests.{ltb-true, leb-true, leb-false, lt-ltb, le-leb, lt-leb, eq-eqb, eqb-false}
 use lib.Dec.{eqb, leb, ltb}
@@ -12,10 +12,14 @@ use lib.ListN.{length}
 use Rattle.numbers.specs.Sum.{one}
 use Rattle.numbers.proofs.Tests.{is-true, is-false, of-true, not-both, left, right}
 use Rattle.contexts.specs.Counts.{N}
-use Rattle.contexts.specs.Sitting.{Sample, first, second, Progress}
+use Rattle.contexts.specs.Sitting.{Sample, first, second, Progress, sat}
 use Rattle.replay.specs.Room.{Opening}
+use Rattle.replay.specs.Table.{refused, answered, verdictOf}
+use Rattle.replay.specs.Machine.{asking, atDesk, noSuchDesk, ownLines, askingTable, tableAt, tableOf, answerOf, verdict}
+use Rattle.replay.proofs.Tables.{no-refusal, number-same}
 use Rattle.rules.specs.Feed.{countedFrom}
-use Rattle.rules.specs.Report.{someEmpty, tooShort, someShort}
+use Rattle.rules.specs.Report.{someEmpty, tooShort, someShort, doesNotFit}
+use Rattle.rules.specs.Rules.{Answer, reporting, linesOf, rules}
 use Rattle.rules.specs.Short.{NoneCounted, ShortExactly, NeverAtDepth0}
 
 module _ (o : Opening) (n : ℕ) where
@@ -80,6 +84,18 @@ short-exactly o w i = go (w i)
 pub long-counted : (o : Opening) (w : Sample → List ℕ) (i : Sample) → o .depth < length (w i) → NoneCounted o w i → ⊥
 long-counted o w i h none = not-both (tooShort o (length (w i))) (short-exactly o w i .1 (omega arith, none)) (long-enough o (length (w i)) h)
 
--- THEOREM. With D 0 no sample is too short
+-- with D 0 no sample is too short
+none-at-depth-0 : (o : Opening) (n : ℕ) → o .depth ≡ 0 → tooShort o n ≡ false
+none-at-depth-0 o n e = is-false (tooShort o n) (λ t. let h = is-short o n (is-true (tooShort o n) t) in omega (arith, e, h .0, h .1))
+
+-- THEOREM. With D 0 no report is refused with 24: of its table the line of 24 does not apply, and the others have other numbers
 pub never-at-depth-0 : NeverAtDepth0
-never-at-depth-0 o n e = is-false (tooShort o n) (λ t. let h = is-short o n (is-true (tooShort o n) t) in omega (arith, e, h .0, h .1))
+unfolding verdict verdictOf tableOf tableAt askingTable ownLines linesOf
+never-at-depth-0 ρ d sheet place o p at-desk e v =
+    go (answerOf rules ρ (atDesk d (asking (reporting sheet place)))) (noSuchDesk d) (someEmpty p) (doesNotFit sheet place (sat (o .symbols) (o .depth) p)) (rw (at-desk, none-at-depth-0 o (p .size first) e, none-at-depth-0 o (p .size second) e) at v)
+  where
+    go : (x : Answer) (a b c : Bool) → cond a (refused 2) (cond b (refused 11) (cond c (refused 12) (answered x))) ≡ refused 24 → ⊥
+    go x true b c q = let z = number-same q in omega (arith, z)
+    go x false true c q = let z = number-same q in omega (arith, z)
+    go x false false true q = let z = number-same q in omega (arith, z)
+    go x false false false q = no-refusal refl q

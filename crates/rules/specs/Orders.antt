@@ -1,5 +1,6 @@
 -- THE ORDER OF REFUSALS: the numbers of each call, the one that goes first in front. Where several apply, the first of the list is given. Document 01 gives
--- "the lowest number"; document 02 says where a later number stands. Every table has exactly its list (proofs/Numbers, and Demand1). Assumes nothing.
+-- "the lowest number"; document 02 says where a later number stands. Each table has exactly its list, an ask's at a desk that is not open its list up to 4: proofs/Numbers
+-- `in-order`, demands/specs/Demands `in-order`, judgement/proofs/Exactly `file-in-order`. Assumes nothing.
 use Prim.Native.Nat.{ℕ}
 use mathlib.Core.Bool.{cond}
 use mathlib.Core.List.{List, [], _∷_, map}

@@ -74,7 +74,7 @@ returns-6 c =
     let x = c .before .before .before .before .before .before .before .before .before .before .before .args in
     let k = c .before .before .before .desk-in in
     told-first-short (x .store .now) (x .desk) (x .place) (x .sheet .now) (sound-here (c .before .before .before .before .before .before .before)) (open-here (c .before .before .before .before))
-    (k .result) (k .ensures) (c .before .if5 .left) (c .before .before .if4 .left) (c .if6 .taken)
+    (k .result) (k .ensures) (c .before .if5 .left) (c .before .before .if4 .left) (omega (arith, c .if6 .taken))
 
 returns-7 : tie.Need-returns-7
 returns-7 c =
