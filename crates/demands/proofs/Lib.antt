@@ -10,6 +10,7 @@ pub mod Demand3
 pub mod AnyStores
 pub mod Charts
 pub mod Program
+pub mod PossibleReport
 pub mod Possible
 pub mod Replays
 pub mod Short
