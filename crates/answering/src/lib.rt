@@ -34,6 +34,9 @@ pub const SHEET_NUMBERS: usize = 5632;
 // How many contexts the store has room for, all of them reserved by the one desk.
 const ROOM: u32 = 256;
 
+// The plain penalty.
+const WEIGHT: u32 = 4;
+
 const DESK: u32 = 0;
 
 // The answer to a file, with its report's rows on the sheet.
@@ -121,7 +124,7 @@ fn seat(store: &mut [u32], shape: Shape)
     ensures { λ _. ⌜ Means (now (store .exit)) (seated shape) ⌝ }
 {
     store::make(store, ROOM);
-    desks::open(store, DESK, shape.alphabet, shape.depth, ROOM);
+    desks::open(store, DESK, shape.alphabet, shape.depth, WEIGHT, ROOM);
 }
 
 // Feeds the file's first sample and then its second: they are its last bytes.

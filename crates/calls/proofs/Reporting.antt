@@ -58,17 +58,17 @@ module _ (ρ : Room Progress) (d sheet place : ℕ) where
 
       module _ (m : o .depth < p .size second) where
         -- both samples are long enough: what is left is the sheet
-        by-sheet : verdict rules ρ (asked d sheet place) ≡ cond (doesNotFit sheet place (sat (o .symbols) (o .depth) p)) (refused 12) (answered (reported (report (sat (o .symbols) (o .depth) p))))
+        by-sheet : verdict rules ρ (asked d sheet place) ≡ cond (doesNotFit sheet place (sat (o .symbols) (o .depth) (o .weight) p)) (refused 12) (answered (reported (report (sat (o .symbols) (o .depth) (o .weight) p))))
         unfolding verdict verdictOf tableOf tableAt askingTable ownLines answerOf answerAt sitting.linesOf sitting.askAnswer
         by-sheet =
             rw (lt-leb desks d l, e, ne-eqb (p .size first) 0 (λ z. omega arith), ne-eqb (p .size second) 0 (λ z. omega arith), long-enough o (p .size first) n, long-enough o (p .size second) m)
 
-        pub sheet-short : sheet / rowWidth < place + length (reportOf (sat (o .symbols) (o .depth) p)) → verdict rules ρ (asked d sheet place) ≡ refused 12
-        sheet-short h = by-sheet ∙ rw (lt-ltb (sheet / rowWidth) (place + length (reportOf (sat (o .symbols) (o .depth) p))) h)
+        pub sheet-short : sheet / rowWidth < place + length (reportOf (sat (o .symbols) (o .depth) (o .weight) p)) → verdict rules ρ (asked d sheet place) ≡ refused 12
+        sheet-short h = by-sheet ∙ rw (lt-ltb (sheet / rowWidth) (place + length (reportOf (sat (o .symbols) (o .depth) (o .weight) p))) h)
 
-        pub rows-told : place + length (reportOf (sat (o .symbols) (o .depth) p)) ≤ sheet / rowWidth
-            → verdict rules ρ (asked d sheet place) ≡ answered (reported (report (sat (o .symbols) (o .depth) p)))
-        rows-told h = by-sheet ∙ rw (le-ltb (sheet / rowWidth) (place + length (reportOf (sat (o .symbols) (o .depth) p))) h)
+        pub rows-told : place + length (reportOf (sat (o .symbols) (o .depth) (o .weight) p)) ≤ sheet / rowWidth
+            → verdict rules ρ (asked d sheet place) ≡ answered (reported (report (sat (o .symbols) (o .depth) (o .weight) p)))
+        rows-told h = by-sheet ∙ rw (le-ltb (sheet / rowWidth) (place + length (reportOf (sat (o .symbols) (o .depth) (o .weight) p))) h)
 
 -- ---- the promise
 

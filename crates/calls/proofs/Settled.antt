@@ -80,7 +80,7 @@ report-told ρ d sheet place = go (ρ .at d)
 
     go : (D : Desk Progress) → Told (verdictOf (askingTable rules d D (reporting sheet place)) (answerAt rules D (asking (reporting sheet place))))
     go closed = no-sitting (noSuchDesk d)
-    go (opened o p) = judged (askingTable rules d (opened o p) (reporting sheet place)) (report (sat (o .symbols) (o .depth) p))
+    go (opened o p) = judged (askingTable rules d (opened o p) (reporting sheet place)) (report (sat (o .symbols) (o .depth) (o .weight) p))
 
 asked-told : (store : List ℕ) (d sheet place : ℕ) (o : Outcome Answer) → Asks store (atDesk d (asking (reporting sheet place))) o → Told o
 asked-told store d sheet place o p = go (soundb store) refl

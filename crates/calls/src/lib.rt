@@ -17,6 +17,7 @@ pub enum Refusal {
     PastReservation,
     SampleEmpty,
     SheetShort,
+    WeightOutside,
     SampleShort,
 }
 
@@ -32,7 +33,7 @@ pub enum RoomLeft {
     Refused(Refusal),
 }
 
-// The answer of a report: the row count and the doubled score. The rows are on the sheet.
+// The answer of a report: the row count and the score. The rows are on the sheet.
 pub enum ReportAnswer {
     Rows(u32, i64),
     Refused(Refusal),
@@ -73,6 +74,7 @@ pub fn number_of(why: Refusal) -> u32
         Refusal::PastReservation => 10,
         Refusal::SampleEmpty => 11,
         Refusal::SheetShort => 12,
+        Refusal::WeightOutside => 20,
         Refusal::SampleShort => 24,
     }
 }

@@ -25,7 +25,7 @@ use Rattle.records.proofs.Counting.{count-blank}
 use Rattle.replay.specs.Room.{Opening, opened, reserved}
 use Rattle.replay.specs.Table.{answered}
 use Rattle.replay.specs.Machine.{opening, atDesk, moved, shift}
-use Rattle.store.specs.Layout.{symbolsAt, depthAt, reserveAt, sizeAt, slotsAt, recordsIn}
+use Rattle.store.specs.Layout.{symbolsAt, depthAt, weightAt, reserveAt, sizeAt, slotsAt, recordsIn}
 use Rattle.store.specs.Sound.{ofAlphabet, deskOk, heldBy, recordOk, soundb}
 use Rattle.store.specs.Plain.{Open}
 use Rattle.store.specs.Meaning.{progressAt, meaning}
@@ -38,7 +38,7 @@ use Rattle.calls.specs.Promises.{Moves}
 use Rattle.calls.proofs.Keeping.{moves-done}
 use Rattle.changes.specs.Changes.{Opened}
 use Rattle.changes.proofs.Leaving.{left-is}
-use Rattle.changes.proofs.Granting.{Granted, limited, granted}
+use Rattle.changes.proofs.Granting.{Granted, limited, light, granted}
 use Rattle.changes.proofs.Vacant.{not-there, none-there}
 use Rattle.changes.proofs.Others.{Apart, with, meaning-with, reserves-with, other-desk, other-record}
 
@@ -58,6 +58,9 @@ module _ (s t : List ℕ) (d : ℕ) (o : Opening) (h : soundb s ≡ true) (n : O
 
   depth-is : depthAt t d ≡ o .depth
   depth-is = ap (λ (p : Opening). p .depth) (x .named)
+
+  weight-is : weightAt t d ≡ o .weight
+  weight-is = ap (λ (p : Opening). p .weight) (x .named)
 
   reserve-is : reserveAt t d ≡ o .reserve
   reserve-is = ap (λ (p : Opening). p .reserve) (x .named)
@@ -96,6 +99,7 @@ module _ (s t : List ℕ) (d : ℕ) (o : Opening) (h : soundb s ≡ true) (n : O
     fewest = omega (arith, limited o (g .ready .limits) .fewest, symbols-are);
     most = omega (arith, limited o (g .ready .limits) .most, symbols-are);
     depth = omega (arith, limited o (g .ready .limits) .deep, depth-is);
+    weight = omega (arith, light o (g .ready .weight), weight-is);
     some = omega (arith, g .some, reserve-is);
     sizes = λ i. omega (arith, x .empty i);
     within = rw (x .records-same, none-there s d h n) (omega arith);

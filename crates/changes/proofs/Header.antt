@@ -15,7 +15,7 @@ use Rattle.numbers.proofs.Orders.{less, same, more, order}
 use Rattle.numbers.proofs.Sums.{sum-cong}
 use Rattle.contexts.specs.Context.{isContext}
 use Rattle.contexts.specs.Sitting.{Sample, first, second, sameSample}
-use Rattle.store.specs.Layout.{deskStart, field, symbolsAt, depthAt, recentField, sizeAt, slotsAt, deskNumbers}
+use Rattle.store.specs.Layout.{deskStart, field, symbolsAt, depthAt, sizeField, recentField, sizeAt, slotsAt, openingNumbers, deskNumbers}
 use Rattle.store.specs.Sound.{reservedAt}
 use Rattle.store.specs.Plain.{Open}
 use Rattle.store.proofs.Standing.{sound-stands}
@@ -45,16 +45,16 @@ shifted-below a A slots zero l b each = b
 shifted-below a A slots (suc k) l b each = rw (getD-take 5 slots k 0 (omega arith)) (each k (omega arith))
 
 module _ (s t : List ℕ) (d : ℕ) (i : Sample) (a : ℕ) (f : FedStore s t d i a) where
-  -- open or not, A, D and the reservation
-  pub limit-same : (e n : ℕ) → e < desks → n < 4 → field t e n ≡ field s e n
+  -- open or not, A, D, the weight and the reservation
+  pub limit-same : (e n : ℕ) → e < desks → n < openingNumbers → field t e n ≡ field s e n
   limit-same e n l m = elim (same? e d) [
     | yes q ↦ rw q (f .limits-same n m)
     | no q ↦ f .others-same e n l q (omega arith)
   ]
 
   other-size : (e : ℕ) → e < desks → e ≢ d → (j : Sample) → sizeAt t e j ≡ sizeAt s e j
-  other-size e l q first = f .others-same e 4 l q (omega arith)
-  other-size e l q second = f .others-same e 5 l q (omega arith)
+  other-size e l q first = f .others-same e (sizeField first) l q (omega arith)
+  other-size e l q second = f .others-same e (sizeField second) l q (omega arith)
 
   pub size-after : (e : ℕ) → e < desks → (j : Sample) → sizeAt t e j ≡ sizeAt s e j + one (eqb d e && sameSample i j)
   size-after e l j = elim (same? e d) [
@@ -72,7 +72,7 @@ module _ (s t : List ℕ) (d : ℕ) (i : Sample) (a : ℕ) (f : FedStore s t d i
   context-same e l c = ap₂ (λ (A D : ℕ). isContext A D c) (limit-same e 1 l (omega arith)) (limit-same e 2 l (omega arith))
 
   pub reserved-same : (e : ℕ) → e < desks → reservedAt t e ≡ reservedAt s e
-  reserved-same e l = ap₂ (λ (m n : ℕ). cond (eqb m 1) n 0) (limit-same e 0 l (omega arith)) (limit-same e 3 l (omega arith))
+  reserved-same e l = ap₂ (λ (m n : ℕ). cond (eqb m 1) n 0) (limit-same e 0 l (omega arith)) (limit-same e 4 l (omega arith))
 
   pub reservations-same : sum desks (reservedAt t) ≡ sum desks (reservedAt s)
   reservations-same = sum-cong desks reserved-same

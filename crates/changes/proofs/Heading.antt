@@ -11,7 +11,7 @@ use Rattle.numbers.specs.Limits.{deepest, desks}
 use Rattle.numbers.specs.Sum.{one}
 use Rattle.numbers.proofs.Orders.{less, same, more, order}
 use Rattle.contexts.specs.Sitting.{Sample, sameSample}
-use Rattle.store.specs.Layout.{headerSize, room, deskStart, field, sizeField, recentField, sizeAt, slotsAt, deskNumbers}
+use Rattle.store.specs.Layout.{headerSize, room, deskStart, field, sizeField, recentField, sizeAt, slotsAt, openingNumbers, deskNumbers}
 use Rattle.store.proofs.Standing.{slots-long}
 use Rattle.changes.specs.FedStore.{shifted}
 use Rattle.changes.specs.Noted.{noted, Places}
@@ -55,7 +55,7 @@ module _ (s u : List ℕ) (h : Headed s u) (d : ℕ) (l : d < desks) (i : Sample
         | more o ↦ past (deskStart e + f) (omega (arith, g .slots, g .high)) (omega arith)
       ]
 
-  pub limits-stay : (f : ℕ) → f < 4 → field done d f ≡ field s d f
+  pub limits-stay : (f : ℕ) → f < openingNumbers → field done d f ≡ field s d f
   limits-stay f b =
       let g = fields-of i in
       before (deskStart d + f) (λ z. omega arith) (λ z. omega (arith, g .low)) (omega (arith, g .slots, g .low)) (omega arith)

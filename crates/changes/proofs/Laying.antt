@@ -13,15 +13,15 @@ use Rattle.contexts.specs.Sitting.{Sample, first, second}
 use Rattle.records.specs.Records.{records}
 use Rattle.records.proofs.Lent.{past-lent, agree-later}
 use Rattle.replay.specs.Room.{Opening, naming}
-use Rattle.store.specs.Layout.{headerSize, storeSize, deskStart, room, field, sizeAt, slotsAt, recordsIn, deskNumbers}
+use Rattle.store.specs.Layout.{headerSize, storeSize, deskStart, room, field, sizeField, sizeAt, recentField, slotsAt, recordsIn, deskNumbers}
 use Rattle.store.specs.Meaning.{openingAt}
 use Rattle.changes.specs.Changes.{freshDesk, Opened}
 
--- ---- the part: zeros, then the first four numbers
+-- ---- the part: zeros, then the numbers that the opening names
 
-pub laid-out : (l₀ l : List ℕ) (i A D r : ℕ) → length l₀ ≡ deskNumbers → deskNumbers ≤ i → i ≤ deskNumbers → l ≡ replicate i 0 ++ drop i l₀
-    → set (set (set (set l 0 1) 1 A) 2 D) 3 r ≡ freshDesk (naming A D r)
-laid-out l₀ l i A D r long low high e =
+pub laid-out : (l₀ l : List ℕ) (i A D W r : ℕ) → length l₀ ≡ deskNumbers → deskNumbers ≤ i → i ≤ deskNumbers → l ≡ replicate i 0 ++ drop i l₀
+    → set (set (set (set (set l 0 1) 1 A) 2 D) 3 W) 4 r ≡ freshDesk (naming A D W r)
+laid-out l₀ l i A D W r long low high e =
     let all : i ≡ deskNumbers = omega arith in
     let none : drop deskNumbers l₀ ≡ [] = drop-of-length-le l₀ {i = deskNumbers} (le-of-eq long) in
     let zeros : l ≡ replicate deskNumbers 0 = e ∙ rw (all, none) in
@@ -71,12 +71,12 @@ module _ (s : List ℕ) (d : ℕ) (o : Opening) (long : headerSize ≤ length s)
   own-slots f = ap (take deepest) (sym (drop-drop f (deskStart d) (laid s d ys)) ∙ ap (drop f) own)
 
   slots-now : (i : Sample) → slotsAt (laid s d ys) d i ≡ replicate deepest 0
-  slots-now first = own-slots 6
-  slots-now second = own-slots 12
+  slots-now first = own-slots (recentField first)
+  slots-now second = own-slots (recentField second)
 
   sizes-now : (i : Sample) → sizeAt (laid s d ys) d i ≡ 0
-  sizes-now first = own-field 4
-  sizes-now second = own-field 5
+  sizes-now first = own-field (sizeField first)
+  sizes-now second = own-field (sizeField second)
 
   others-now : (e f : ℕ) → e ≢ d → e < desks → f < deskNumbers → field (laid s d ys) e f ≡ field s e f
   others-now e f n k m = elim (order e d) [
@@ -89,8 +89,9 @@ module _ (s : List ℕ) (d : ℕ) (o : Opening) (long : headerSize ≤ length s)
   named-now =
       let p = own-field 1 in
       let q = own-field 2 in
-      let r = own-field 3 in
-      λ j. record { symbols = p j; depth = q j; reserve = r j }
+      let w = own-field 3 in
+      let r = own-field 4 in
+      λ j. record { symbols = p j; depth = q j; weight = w j; reserve = r j }
 
   records-now : recordsIn (laid s d ys) ≡ recordsIn s
   unfolding recordsIn

@@ -1,43 +1,60 @@
--- Document 01's limits of an opening, both sides of each: "D 6 opens, 7 gets 5; .. r equal to a room left above 0 opens, one more gets 7 (6 where the
+-- The limits of an opening, both sides of each: "D 6 opens, 7 gets 5", a weight of 16 opens, 17 gets 20; "r equal to a room left above 0 opens, one more gets 7 (6 where the
 -- room left is K)". In any room, at any of its desks that is closed. Assumes nothing.
 use Prim.Native.Nat.{ℕ, suc, _≤_, _<_}
 use native.Mathlib.Omega.{arith}
-use mathlib.Core.Path.{_≡_}
+use mathlib.Core.Path.{_≡_, refl}
+use mathlib.Core.Bool.{false}
 use borrow.Author.Tests.{le-ltb}
-use Rattle.numbers.specs.Limits.{fewestSymbols, mostSymbols, deepest, desks}
+use Rattle.numbers.specs.Limits.{fewestSymbols, mostSymbols, deepest, mostWeight, desks}
 use Rattle.contexts.specs.Sitting.{Progress}
 use Rattle.replay.specs.Room.{closed, Room, left, naming}
 use Rattle.replay.specs.Table.{refused, answered}
-use Rattle.replay.specs.Machine.{opening, atDesk, outsideLimits, verdict}
+use Rattle.replay.specs.Machine.{opening, atDesk, outsideLimits, weightOutside, verdict}
 use Rattle.rules.specs.Rules.{done, rules}
-use Rattle.changes.proofs.Granting.{Ready, not-outside, outside, above-room, above-left, granted}
+use Rattle.changes.proofs.Granting.{Ready, not-outside, not-heavy, outside, heavy, above-room, above-left, granted}
 
 module _ (ρ : Room Progress) (d : ℕ) (near : d < desks) (shut : ρ .at d ≡ closed) (A : ℕ) (few : fewestSymbols ≤ A) (most : A ≤ mostSymbols) where
-  ready : (D r : ℕ) → D ≤ deepest → Ready ρ d (naming A D r)
-  ready D r h = record { desk = near; shut = shut; limits = not-outside (naming A D r) (record { fewest = few; most = most; deep = h }) }
+  in-limits : (D W r : ℕ) → D ≤ deepest → outsideLimits (naming A D W r) ≡ false
+  in-limits D W r h = not-outside (naming A D W r) (record { fewest = few; most = most; deep = h })
+
+  ready : (D W r : ℕ) → D ≤ deepest → W ≤ mostWeight → Ready ρ d (naming A D W r)
+  ready D W r h w = record { desk = near; shut = shut; limits = in-limits D W r h; weight = not-heavy (naming A D W r) w }
 
   -- a reservation that the room left holds
-  fits : (D r : ℕ) → D ≤ deepest → 1 ≤ r → r ≤ left ρ → verdict rules ρ (atDesk d (opening (naming A D r))) ≡ answered done
+  fits : (D W r : ℕ) → D ≤ deepest → W ≤ mostWeight → 1 ≤ r → r ≤ left ρ → verdict rules ρ (atDesk d (opening (naming A D W r))) ≡ answered done
   unfolding left
-  fits D r h some in-left = granted ρ d (naming A D r) (record { ready = ready D r h; some = some; in-room = omega arith; fits = in-left })
+  fits D W r h w some in-left = granted ρ d (naming A D W r) (record { ready = ready D W r h w; some = some; in-room = omega arith; fits = in-left })
 
   -- D 6 opens
-  pub six-opens : (r : ℕ) → 1 ≤ r → r ≤ left ρ → verdict rules ρ (atDesk d (opening (naming A 6 r))) ≡ answered done
-  six-opens r some in-left = fits 6 r (omega arith) some in-left
+  pub six-opens : (W r : ℕ) → W ≤ mostWeight → 1 ≤ r → r ≤ left ρ → verdict rules ρ (atDesk d (opening (naming A 6 W r))) ≡ answered done
+  six-opens W r w some in-left = fits 6 W r (omega arith) w some in-left
 
-  -- 7 gets 5
-  pub seven-gets-5 : (r : ℕ) → verdict rules ρ (atDesk d (opening (naming A 7 r))) ≡ refused 5
+  -- 7 gets 5, whatever the weight
+  pub seven-gets-5 : (W r : ℕ) → verdict rules ρ (atDesk d (opening (naming A 7 W r))) ≡ refused 5
   unfolding outsideLimits
-  seven-gets-5 r = outside ρ d (naming A 7 r) near shut (rw (le-ltb A fewestSymbols few, le-ltb mostSymbols A most))
+  seven-gets-5 W r = outside ρ d (naming A 7 W r) near shut (rw (le-ltb A fewestSymbols few, le-ltb mostSymbols A most))
 
-  -- r equal to a room left above 0 opens
-  pub all-left-opens : (D : ℕ) → D ≤ deepest → 1 ≤ left ρ → verdict rules ρ (atDesk d (opening (naming A D (left ρ)))) ≡ answered done
-  all-left-opens D h some = fits D (left ρ) h some (omega arith)
+  -- a weight of 0 opens, and one of 16
+  pub zero-opens : (D r : ℕ) → D ≤ deepest → 1 ≤ r → r ≤ left ρ → verdict rules ρ (atDesk d (opening (naming A D 0 r))) ≡ answered done
+  zero-opens D r h some in-left = fits D 0 r h (omega arith) some in-left
 
-  -- one more gets 7 ..
-  pub one-more-gets-7 : (D : ℕ) → D ≤ deepest → left ρ < ρ .made → verdict rules ρ (atDesk d (opening (naming A D (suc (left ρ))))) ≡ refused 7
-  one-more-gets-7 D h less = above-left ρ d (naming A D (suc (left ρ))) (ready D (suc (left ρ)) h) (omega arith) less (omega arith)
+  pub sixteen-opens : (D r : ℕ) → D ≤ deepest → 1 ≤ r → r ≤ left ρ → verdict rules ρ (atDesk d (opening (naming A D 16 r))) ≡ answered done
+  sixteen-opens D r h some in-left = fits D 16 r h (omega arith) some in-left
 
-  -- .. and 6 where the room left is K
-  pub one-more-gets-6 : (D : ℕ) → D ≤ deepest → left ρ ≡ ρ .made → verdict rules ρ (atDesk d (opening (naming A D (suc (left ρ))))) ≡ refused 6
-  one-more-gets-6 D h whole = above-room ρ d (naming A D (suc (left ρ))) (ready D (suc (left ρ)) h) (omega arith) (omega arith)
+  -- 17 gets 20, whatever the reservation
+  pub seventeen-gets-20 : (D r : ℕ) → D ≤ deepest → verdict rules ρ (atDesk d (opening (naming A D 17 r))) ≡ refused 20
+  unfolding weightOutside
+  seventeen-gets-20 D r h = heavy ρ d (naming A D 17 r) near shut (in-limits D 17 r h) refl
+
+  module _ (D W : ℕ) (h : D ≤ deepest) (w : W ≤ mostWeight) where
+    -- r equal to a room left above 0 opens
+    pub all-left-opens : 1 ≤ left ρ → verdict rules ρ (atDesk d (opening (naming A D W (left ρ)))) ≡ answered done
+    all-left-opens some = fits D W (left ρ) h w some (omega arith)
+
+    -- one more gets 7 ..
+    pub one-more-gets-7 : left ρ < ρ .made → verdict rules ρ (atDesk d (opening (naming A D W (suc (left ρ))))) ≡ refused 7
+    one-more-gets-7 less = above-left ρ d (naming A D W (suc (left ρ))) (ready D W (suc (left ρ)) h w) (omega arith) less (omega arith)
+
+    -- .. and 6 where the room left is K
+    pub one-more-gets-6 : left ρ ≡ ρ .made → verdict rules ρ (atDesk d (opening (naming A D W (suc (left ρ))))) ≡ refused 6
+    one-more-gets-6 whole = above-room ρ d (naming A D W (suc (left ρ))) (ready D W (suc (left ρ)) h w) (omega arith) (omega arith)

@@ -43,8 +43,9 @@ module _ (s t : List ℕ) (d : ℕ) (i : Sample) (a : ℕ) (f : FedStore s t d i
   opening-same =
       let A = f .limits-same 1 (omega arith) in
       let D = f .limits-same 2 (omega arith) in
-      let r = f .limits-same 3 (omega arith) in
-      λ j. record { symbols = A j; depth = D j; reserve = r j }
+      let w = f .limits-same 3 (omega arith) in
+      let r = f .limits-same 4 (omega arith) in
+      λ j. record { symbols = A j; depth = D j; weight = w j; reserve = r j }
 
   abbrev next : Progress
   next = rule.afterFeed (openingAt s d) i a (progressAt s d)

@@ -8,16 +8,16 @@ use native.Mathlib.Omega.{arith}
 use lib.ListN.{length}
 use Rattle.numbers.specs.Limits.{desks}
 use Rattle.contexts.specs.Sitting.{Sample, first, second, sampleOf, sameSample}
-use Rattle.store.specs.Layout.{headerSize, deskStart, sizeField, recentField}
+use Rattle.store.specs.Layout.{headerSize, deskStart, openingNumbers, sizeField, recentField}
 use Rattle.changes.specs.Noted.{Places}
 
 -- by the sample's number
-pub size-number : (k : ℕ) → k ≤ 1 → 4 + k ≡ sizeField (sampleOf k)
+pub size-number : (k : ℕ) → k ≤ 1 → openingNumbers + k ≡ sizeField (sampleOf k)
 size-number zero l = refl
 size-number (suc zero) l = refl
 size-number (suc (suc k)) l = absurd (omega arith)
 
-pub recent-number : (k : ℕ) → k ≤ 1 → 6 + 6 * k ≡ recentField (sampleOf k)
+pub recent-number : (k : ℕ) → k ≤ 1 → openingNumbers + 2 + 6 * k ≡ recentField (sampleOf k)
 recent-number zero l = refl
 recent-number (suc zero) l = refl
 recent-number (suc (suc k)) l = absurd (omega arith)
@@ -29,9 +29,9 @@ desk-places l d second h g = record { past-used = omega arith; in-order = omega 
 
 -- where a sample's length and its recent symbols stand among a desk's numbers
 pub record Fields (i : Sample) : Type 0 where
-  pub low : 4 ≤ sizeField i
-  pub high : sizeField i ≤ 5
-  pub slots : recentField i + 18 ≡ 6 * sizeField i
+  pub low : openingNumbers ≤ sizeField i
+  pub high : sizeField i ≤ openingNumbers + 1
+  pub slots : recentField i + 5 * openingNumbers ≡ 6 * sizeField i + 2
 
 pub fields-of : (i : Sample) → Fields i
 fields-of first = record { low = omega arith; high = omega arith; slots = omega arith }

@@ -24,7 +24,7 @@ use Rattle.records.proofs.Keeping.{lookup-keep}
 use Rattle.replay.specs.Room.{Desk, Room, reserved, reservations}
 use Rattle.replay.specs.Machine.{put}
 use Rattle.replay.proofs.Desks.{put-sum}
-use Rattle.store.specs.Layout.{headerSize, deskStart, room, field, isOpen, recordsIn, totalOf, deskNumbers}
+use Rattle.store.specs.Layout.{headerSize, deskStart, room, field, isOpen, sizeField, recordsIn, totalOf, deskNumbers}
 use Rattle.store.specs.Sound.{deskOk, heldBy, reservedAt, keyOk, sampleOk, tableOk, parentKey, parentOk, recordOk, soundb}
 use Rattle.store.specs.Meaning.{deskAt, meaning}
 use Rattle.store.proofs.Many.{sample-cong}
@@ -99,9 +99,10 @@ module _ (s t : List ℕ) (d : ℕ) (x : Apart s t d) where
           fewest = omega (arith, g .fewest, same 1 (omega arith));
           most = omega (arith, g .most, same 1 (omega arith));
           depth = omega (arith, g .depth, same 2 (omega arith));
-          some = omega (arith, g .some, same 3 (omega arith));
+          weight = omega (arith, g .weight, same 3 (omega arith));
+          some = omega (arith, g .some, same 4 (omega arith));
           sizes = λ i. rw (sym (same-size s t e (same-desk e n l) i)) (g .sizes i);
-          within = omega (arith, g .within, same 3 (omega arith), ap length (x .kept e n));
+          within = omega (arith, g .within, same 4 (omega arith), ap length (x .kept e n));
           slots = λ i. rw (same 1 (omega arith), sym (same-slots s t e (same-desk e n l) l i)) (g .slots i);
         })
     | no q ↦ of-true _ (desk-shut t e (heldBy e (recordsIn t)) q)
@@ -126,8 +127,8 @@ module _ (s t : List ℕ) (d : ℕ) (x : Apart s t d) where
     key-same = rw (same 0 (omega arith), same 1 (omega arith), same 2 (omega arith))
 
     sample-same : (i : Sample) → sampleOk t r i ≡ sampleOk s r i
-    sample-same first = rw (same 1 (omega arith), same 4 (omega arith))
-    sample-same second = rw (same 1 (omega arith), same 5 (omega arith))
+    sample-same first = rw (same 1 (omega arith), same (sizeField first) (omega arith))
+    sample-same second = rw (same 1 (omega arith), same (sizeField second) (omega arith))
 
     table-same : tableOk t r ≡ tableOk s r
     unfolding tableOk

@@ -10,7 +10,7 @@ use Rattle.numbers.specs.Limits.{longest, desks}
 use Rattle.contexts.specs.Sitting.{sampleOf}
 use Rattle.replay.specs.Room.{Opening, left}
 use Rattle.replay.specs.Table.{Outcome, refused, answered}
-use Rattle.replay.specs.Machine.{opening, asking, closing, Call, atDesk, outsideLimits, verdict}
+use Rattle.replay.specs.Machine.{opening, asking, closing, Call, atDesk, outsideLimits, weightOutside, verdict}
 use Rattle.store.specs.Layout.{reserveAt, symbolsAt, sizeAt, recordsIn}
 use Rattle.store.specs.Sound.{soundb, heldBy}
 use Rattle.store.specs.Plain.{Open}
@@ -58,8 +58,8 @@ module _ (s : List ℕ) (h : soundb s ≡ true) (d : ℕ) where
     words = λ w. opened-words s h w d o g;
   }
 
-  reserving : (o : Opening) → d < desks → (Open s d → ⊥) → outsideLimits o ≡ false → Possible s (atDesk d (opening o))
-  reserving o near shut limits =
+  reserving : (o : Opening) → d < desks → (Open s d → ⊥) → outsideLimits o ≡ false → weightOutside o ≡ false → Possible s (atDesk d (opening o))
+  reserving o near shut limits weight =
       elim (decLe 1 (o .reserve)) [
         | no z ↦ refuses 6 (atDesk d (opening o)) (grant.zero-reserved (meaning s) d o ready (omega arith))
         | yes some ↦ elim (decLe (o .reserve) (meaning s .made)) [
@@ -72,7 +72,7 @@ module _ (s : List ℕ) (h : soundb s ≡ true) (d : ℕ) where
       ]
     where
       ready : grant.Ready (meaning s) d o
-      ready = ready-there s d o (record { sound = h; desk = near; shut = shut; limits = limits })
+      ready = ready-there s d o (record { sound = h; desk = near; shut = shut; limits = limits; weight = weight })
 
   pub opening-possible : (o : Opening) → Possible s (atDesk d (opening o))
   opening-possible o = elim (decLe desks d) [
@@ -83,9 +83,13 @@ module _ (s : List ℕ) (h : soundb s ≡ true) (d : ℕ) where
     ]
   ]
     where
+      weighed : d < desks → (Open s d → ⊥) → outsideLimits o ≡ false → (b : Bool) → weightOutside o ≡ b → Possible s (atDesk d (opening o))
+      weighed near shut within true e = refuses 20 (atDesk d (opening o)) (grant.heavy (meaning s) d o near (shut-there s d shut) within e)
+      weighed near shut within false e = reserving o near shut within e
+
       go : d < desks → (Open s d → ⊥) → (b : Bool) → outsideLimits o ≡ b → Possible s (atDesk d (opening o))
       go near shut true e = refuses 5 (atDesk d (opening o)) (grant.outside (meaning s) d o near (shut-there s d shut) e)
-      go near shut false e = reserving o near shut e
+      go near shut false e = weighed near shut e (weightOutside o) refl
 
   -- ---- a closing
 

@@ -20,7 +20,7 @@ use Rattle.records.specs.Records.{key}
 use Rattle.records.specs.Held.{held, keep, ofDesk}
 use Rattle.records.proofs.Keeping.{rises-keep, held-keep}
 use Rattle.records.proofs.Finding.{place-held}
-use Rattle.store.specs.Layout.{symbolsAt, depthAt, sizeAt, recordsIn}
+use Rattle.store.specs.Layout.{symbolsAt, depthAt, weightAt, sizeAt, recordsIn}
 use Rattle.store.specs.Sound.{soundb, heldBy}
 use Rattle.store.specs.Plain.{Open, ContextAt}
 use Rattle.store.specs.Meaning.{openingAt, progressAt, sittingAt}
@@ -45,7 +45,7 @@ one-in second x y false = ap (ltb 0) (let e : x + 0 + (y + 0) ≡ x + y = omega 
 module _ (s : List ℕ) (h : soundb s ≡ true) (d : ℕ) (o : Open s d) (i : Sample) (a : ℕ) (l : a < symbolsAt s d) where
   -- the desk's sitting after the feed
   abbrev after : Sitting
-  after = sat (symbolsAt s d) (depthAt s d) (rule.afterFeed (openingAt s d) i a (progressAt s d))
+  after = sat (symbolsAt s d) (depthAt s d) (weightAt s d) (rule.afterFeed (openingAt s d) i a (progressAt s d))
 
   total-after : (j : Sample) (c : List ℕ) → totalIn after j c ≡ totalIn (sittingAt s d) j c + one (sameSample j i && (isCounted s d i && begins c (recentAt s d i)))
   unfolding rule.afterFeed

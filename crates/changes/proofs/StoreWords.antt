@@ -15,7 +15,7 @@ use Rattle.records.specs.Held.{ofDesk, without}
 use Rattle.records.specs.Bumped.{cellOf}
 use Rattle.recording.proofs.Desks.{length-without}
 use Rattle.replay.specs.Room.{Opening}
-use Rattle.store.specs.Layout.{headerSize, deskStart, deskNumbers, sizeField, recentField, used, recordsIn}
+use Rattle.store.specs.Layout.{headerSize, deskStart, openingNumbers, deskNumbers, sizeField, recentField, used, recordsIn}
 use Rattle.store.specs.Sound.{soundb}
 use Rattle.store.specs.Meaning.{meaning}
 use Rattle.store.proofs.Parts.{records-length}
@@ -30,7 +30,7 @@ use Rattle.changes.proofs.Recent.{recent-within}
 use Rattle.changes.proofs.Filling.{room-enough}
 use Rattle.changes.proofs.Numbering.{fields-of}
 use Rattle.changes.proofs.Placing.{headed}
-use Rattle.changes.proofs.Granting.{Granted, limited}
+use Rattle.changes.proofs.Granting.{Granted, limited, light}
 use Rattle.changes.proofs.Vacant.{room-made}
 use Rattle.changes.proofs.Laying.{laid}
 use Rattle.changes.proofs.Flat.{flat, inFront, front-long}
@@ -49,13 +49,13 @@ module _ (s : List ℕ) (h : soundb s ≡ true) (w : Words s) where
 
   -- ---- an opening
 
-  fresh-words : (o : Opening) → o .symbols < 2 ^ 32 → o .depth < 2 ^ 32 → o .reserve < 2 ^ 32 → Words (freshDesk o)
-  fresh-words o p q r = (lit< tt, (p, (q, (r, words-zeros 14))))
+  fresh-words : (o : Opening) → o .symbols < 2 ^ 32 → o .depth < 2 ^ 32 → o .weight < 2 ^ 32 → o .reserve < 2 ^ 32 → Words (freshDesk o)
+  fresh-words o p q w r = (lit< tt, (p, (q, (w, (r, words-zeros (deskNumbers - openingNumbers))))))
 
   pub opened-words : (d : ℕ) (o : Opening) → Granted (meaning s) d o → Words (laid s d (freshDesk o))
   opened-words d o g =
       let l = limited o (g .ready .limits) in
-      let small = fresh-words o (omega (arith, l .most)) (omega (arith, l .deep)) (omega (arith, g .in-room, room-made s, passed s h .framed .most)) in
+      let small = fresh-words o (omega (arith, l .most)) (omega (arith, l .deep)) (omega (arith, light o (g .ready .weight))) (omega (arith, g .in-room, room-made s, passed s h .framed .most)) in
       let rest = drop (deskStart d + deskNumbers - deskStart d) (drop (deskStart d) s) in
       words-append (take (deskStart d) s) (freshDesk o ++ rest) (words-take (deskStart d) s w)
       (words-append (freshDesk o) rest small (words-drop (deskStart d + deskNumbers - deskStart d) (drop (deskStart d) s) (words-drop (deskStart d) s w)))

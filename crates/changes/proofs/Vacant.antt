@@ -41,7 +41,7 @@ unfolding meaning
 open-there s d o p = already-open (meaning s) d o (p .desk) (openingAt s d) (progressAt s d) (desk-opened s d p)
 
 pub ready-there : (s : List ℕ) (d : ℕ) (o : Opening) → Openable s d o → Ready (meaning s) d o
-ready-there s d o p = record { desk = p .desk; shut = shut-there s d (p .shut); limits = p .limits }
+ready-there s d o p = record { desk = p .desk; shut = shut-there s d (p .shut); limits = p .limits; weight = p .weight }
 
 -- no record is of a desk that is not open
 module _ (s : List ℕ) (d : ℕ) (h : soundb s ≡ true) (n : Open s d → ⊥) where

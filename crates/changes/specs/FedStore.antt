@@ -10,7 +10,7 @@ use Rattle.numbers.specs.Limits.{longest, desks}
 use Rattle.numbers.specs.Sum.{one}
 use Rattle.contexts.specs.Sitting.{Sample, sampleOf, sameSample}
 use Rattle.records.specs.Fed.{fedTo, missingTo}
-use Rattle.store.specs.Layout.{storeSize, room, field, symbolsAt, depthAt, reserveAt, sizeAt, slotsAt, recordsIn, deskNumbers}
+use Rattle.store.specs.Layout.{storeSize, room, field, symbolsAt, depthAt, reserveAt, sizeAt, slotsAt, recordsIn, openingNumbers, deskNumbers}
 use Rattle.store.specs.Sound.{soundb, heldBy}
 use Rattle.store.specs.Plain.{Open}
 use Rattle.store.specs.Meaning.{openingAt}
@@ -63,9 +63,9 @@ shifted a slots = a ∷ take 5 slots
 -- symbol a was fed to sample i of desk d: s are the numbers before, t those after
 pub record FedStore (s t : List ℕ) (d : ℕ) (i : Sample) (a : ℕ) : Type 0 where
   pub room-same : room t ≡ room s
-  -- the other desks' numbers, and A, D and the reservation of this one
+  -- the other desks' numbers, and those that the opening of this one named
   pub others-same : (e f : ℕ) → e < desks → e ≢ d → f < deskNumbers → field t e f ≡ field s e f
-  pub limits-same : (f : ℕ) → f < 4 → field t d f ≡ field s d f
+  pub limits-same : (f : ℕ) → f < openingNumbers → field t d f ≡ field s d f
   -- the sample is longer by one, and its recent symbols have moved on
   pub sizes : (j : Sample) → sizeAt t d j ≡ sizeAt s d j + one (sameSample j i)
   pub slots : (j : Sample) → slotsAt t d j ≡ cond (sameSample j i) (shifted a (slotsAt s d j)) (slotsAt s d j)

@@ -6,6 +6,7 @@ use mathlib.Core.List.{List, [], _∷_}
 use Prim.Native.Nat.{ℕ}
 use lib.IntN.{negsuc}
 use lib.Ieee.{Float, fin, div, ofInt, sub}
+use Rattle.numbers.specs.Limits.{plainWeight}
 use Rattle.numbers.specs.Sum.{sum}
 use Rattle.contexts.specs.Counts.{N}
 use Rattle.contexts.specs.Sitting.{Sample, first, second, Sitting, sittingOf}
@@ -19,10 +20,10 @@ pastJ2 first = 1 ∷ 0 ∷ 1 ∷ 0 ∷ []
 pastJ2 second = 0 ∷ 0 ∷ 0 ∷ 0 ∷ []
 
 abbrev J2 : Sitting
-J2 = sittingOf 2 1 1 pastJ2
+J2 = sittingOf 2 1 plainWeight 1 pastJ2
 
 abbrev J5 : Sitting
-J5 = sittingOf 2 1 1 (λ i. 0 ∷ [])
+J5 = sittingOf 2 1 plainWeight 1 (λ i. 0 ∷ [])
 
 -- the nearest numbers to 1/3, and to that less 1
 abbrev third : Float

@@ -73,7 +73,7 @@ fn key_of(symbols: u32, desk: u32, length: u32, code: u32) -> Named
         if symbols <= digit {
             return Named::NoContext;
         }
-        key = key + (digit * weight_of(length - left) + 1);
+        key = key + (digit * eights_of(length - left) + 1);
         rest = rest / 8;
         left = left - 1;
     }
@@ -84,7 +84,7 @@ fn key_of(symbols: u32, desk: u32, length: u32, code: u32) -> Named
 }
 
 // What a symbol weighs in a key that has so many more recent ones: 8^6 for the most recent, and an eighth for each place back.
-fn weight_of(newer: u32) -> u32
+fn eights_of(newer: u32) -> u32
     requires { ⌜ newer < deepest ⌝ }
     ensures { λ r. ⌜ r ≡ 8 ^ (deepest - newer) ⌝ }
 {

@@ -9,7 +9,7 @@ use lib.Arith.{digits-mod, mod-mul}
 use lib.Dec.{T}
 use Rattle.numbers.specs.Limits.{mostSymbols, deepest}
 use Rattle.contexts.specs.Context.{isContext}
-use Rattle.contexts.specs.Keys.{digits, deskSpan, keyOf, deskOf, lenOf, weight, symbolsOf, contextOf}
+use Rattle.contexts.specs.Keys.{digits, deskSpan, keyOf, deskOf, lenOf, eights, symbolsOf, contextOf}
 use Rattle.contexts.proofs.Strings.{context-cons, context-length}
 use Rattle.contexts.proofs.KeyOrder.{Within, pow-pos, digits-nil}
 
@@ -55,15 +55,15 @@ contextOf-length k h = symbols-length deepest (k % 8) (k % deskSpan / 8) h
 -- ---- a key is that of its context where nothing stands past its length
 
 abbrev pub Ends : ℕ → Type 0
-Ends k = k % weight (lenOf k) ≡ lenOf k
+Ends k = k % eights (lenOf k) ≡ lenOf k
 
 -- a key with nothing past its length has at most six symbols
 pub ends-short : (k : ℕ) → Ends k → lenOf k ≤ deepest
-unfolding weight
+unfolding eights
 ends-short k e = go (lenOf k) (omega arith) e
   where
-    go : (l : ℕ) → l < 8 → k % weight l ≡ l → l ≤ 6
-    go l u = each-length (λ l. k % weight l ≡ l → l ≤ 6)
+    go : (l : ℕ) → l < 8 → k % eights l ≡ l → l ≤ 6
+    go l u = each-length (λ l. k % eights l ≡ l → l ≤ 6)
         (λ q. omega arith) (λ q. omega arith) (λ q. omega arith) (λ q. omega arith)
         (λ q. omega arith) (λ q. omega arith) (λ q. omega arith) (λ q. absurd (omega arith)) l u
 
@@ -80,9 +80,9 @@ digits-back (suc n) (suc l) j v e z h =
     let y : v % 8 ^ n % 8 ^ j ≡ 0 = ap (λ (m : ℕ). m % 8 ^ j) w ∙ digits-mod (v / 8 ^ j % 8 ^ l) (pow-pos j) in
     ap (λ (m : ℕ). v / 8 ^ n * 8 ^ n + m) (digits-back n l j (v % 8 ^ n) f y (mod-lt v (pow-pos n))) ∙ div-add-mod' v (8 ^ n)
 
-ends-digits : (k l : ℕ) → l < 8 → l ≤ 6 → k % weight l ≡ l → k % deskSpan / 8 % 8 ^ (6 - l) ≡ 0
-unfolding weight
-ends-digits k l u = each-length (λ l. l ≤ 6 → k % weight l ≡ l → k % deskSpan / 8 % 8 ^ (6 - l) ≡ 0)
+ends-digits : (k l : ℕ) → l < 8 → l ≤ 6 → k % eights l ≡ l → k % deskSpan / 8 % 8 ^ (6 - l) ≡ 0
+unfolding eights
+ends-digits k l u = each-length (λ l. l ≤ 6 → k % eights l ≡ l → k % deskSpan / 8 % 8 ^ (6 - l) ≡ 0)
     (λ h e. omega arith) (λ h e. omega arith) (λ h e. omega arith) (λ h e. omega arith)
     (λ h e. omega arith) (λ h e. omega arith) (λ h e. omega arith) (λ h e. absurd (omega arith)) l u
 
@@ -105,13 +105,13 @@ digits-ends (suc n) j (a ∷ s) e =
     let w : a * 8 ^ n + digits n s ≡ (a * 8 ^ length s + digits n s / 8 ^ j) * 8 ^ j + 0 = omega (arith, ap (λ (m : ℕ). a * m) q, div-add-mod' (digits n s) (8 ^ j)) in
     ap (λ (m : ℕ). m % 8 ^ j) w ∙ digits-mod (a * 8 ^ length s + digits n s / 8 ^ j) (pow-pos j)
 
-ends-at : (d x l : ℕ) → l < 8 → l ≤ 6 → x % 8 ^ (6 - l) ≡ 0 → (d * deskSpan + (x * 8 + l)) % weight l ≡ l
-unfolding weight
-ends-at d x l u = each-length (λ l. l ≤ 6 → x % 8 ^ (6 - l) ≡ 0 → (d * deskSpan + (x * 8 + l)) % weight l ≡ l)
+ends-at : (d x l : ℕ) → l < 8 → l ≤ 6 → x % 8 ^ (6 - l) ≡ 0 → (d * deskSpan + (x * 8 + l)) % eights l ≡ l
+unfolding eights
+ends-at d x l u = each-length (λ l. l ≤ 6 → x % 8 ^ (6 - l) ≡ 0 → (d * deskSpan + (x * 8 + l)) % eights l ≡ l)
     (λ h e. omega arith) (λ h e. omega arith) (λ h e. omega arith) (λ h e. omega arith)
     (λ h e. omega arith) (λ h e. omega arith) (λ h e. omega arith) (λ h e. absurd (omega arith)) l u
 
-pub key-ends : (d : ℕ) (s : List ℕ) → Within s → keyOf d s % weight (length s) ≡ length s
+pub key-ends : (d : ℕ) (s : List ℕ) → Within s → keyOf d s % eights (length s) ≡ length s
 key-ends d s c =
     let l = context-length mostSymbols deepest s c in
     ends-at d (digits deepest s) (length s) (omega arith) l (digits-ends deepest (6 - length s) s (omega arith))

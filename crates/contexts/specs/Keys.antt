@@ -30,9 +30,9 @@ deskOf k = k / deskSpan
 abbrev pub lenOf : ℕ → ℕ
 lenOf k = k % 8
 
--- what the oldest of l symbols weighs in a key
-unfoldable pub weight : ℕ → ℕ
-weight l = 8 ^ (7 - l)
+-- the power of eight at which the oldest of l symbols stands in a key
+unfoldable pub eights : ℕ → ℕ
+eights l = 8 ^ (7 - l)
 
 -- the first l of the n octal digits of v
 unfoldable pub symbolsOf : ℕ → ℕ → ℕ → List ℕ

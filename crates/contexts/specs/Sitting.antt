@@ -28,14 +28,16 @@ pub record Sitting : Type 0 where
   -- A and D
   pub symbols : ℕ
   pub depth : ℕ
+  -- the weight on the penalty, "a whole number of quarters"
+  pub weight : ℕ
   -- n and m, the samples' lengths
   pub size : Sample → ℕ
   -- N(s,a) in each sample
   pub count : Sample → List ℕ → ℕ → ℕ
 
 -- the sitting of two pasts, each most recent symbol first, where the places past the first `from` are counted
-abbrev pub sittingOf : ℕ → ℕ → ℕ → (Sample → List ℕ) → Sitting
-sittingOf A D from past = record { symbols = A; depth = D; size = λ i. length (past i); count = λ i. N from (past i) }
+abbrev pub sittingOf : ℕ → ℕ → ℕ → ℕ → (Sample → List ℕ) → Sitting
+sittingOf A D W from past = record { symbols = A; depth = D; weight = W; size = λ i. length (past i); count = λ i. N from (past i) }
 
 -- N(s) in a sample
 abbrev pub totalIn : Sitting → Sample → List ℕ → ℕ
@@ -72,5 +74,5 @@ pub record Progress : Type 0 where
   pub recent : Sample → List ℕ
   pub count : Sample → List ℕ → ℕ → ℕ
 
-abbrev pub sat : ℕ → ℕ → Progress → Sitting
-sat A D p = record { symbols = A; depth = D; size = p .size; count = p .count }
+abbrev pub sat : ℕ → ℕ → ℕ → Progress → Sitting
+sat A D W p = record { symbols = A; depth = D; weight = W; size = p .size; count = p .count }

@@ -52,7 +52,7 @@ module _ (o : Opening) (len code a : ℕ) where
           }
 
 -- no total of a fitting sitting passes the limit of the shares
-totals-few : (o : Opening) (p : Progress) → SittingFits o p → (s : List ℕ) (i : Sample) → totalIn (sat (o .symbols) (o .depth) p) i s ≤ mostCounted
+totals-few : (o : Opening) (p : Progress) → SittingFits o p → (s : List ℕ) (i : Sample) → totalIn (sat (o .symbols) (o .depth) (o .weight) p) i s ≤ mostCounted
 totals-few o p f s i = omega (arith, f .totals i s, f .sizes i)
 
 same-point : {c e : Chart} → _≡_ {A = Answer} (point c) (point e) → c ≡ e
@@ -70,7 +70,7 @@ there σ d len code a c h =
       desk = h .desk;
       context = decoded len code;
       asked = q;
-      says = subst (ChartSays (sittingThere (h .desk)) (decoded len code) a) (same-point (h .answer)) (chart-says (sat (o .symbols) (o .depth) p) (decoded len code) a (q .symbol) (totals-few o p (h .fits) (decoded len code)));
+      says = subst (ChartSays (sittingThere (h .desk)) (decoded len code) a) (same-point (h .answer)) (chart-says (sat (o .symbols) (o .depth) (o .weight) p) (decoded len code) a (q .symbol) (totals-few o p (h .fits) (decoded len code)));
     }
 
 pub charts-at-stores : ChartsAtStores

@@ -17,18 +17,23 @@ use Rattle.demands.proofs.OwnStrings.{up-to, AnsweredBy, next-answer}
 pub same-report : {q r : Reported} → _≡_ {A = Answer} (reported q) (reported r) → q ≡ r
 same-report e = cc
 
--- a report that is answered by its sitting's strings is theirs
-own : (gs : List (Course rules)) (d sheet place : ℕ) (r : Reported) → AnsweredBy gs d (reporting sheet place) (reported r) → OfItsStrings gs d r
+-- a report that is answered by its sitting's strings is their joint estimate
+pub own : (gs : List (Course rules)) (d sheet place : ℕ) (r : Reported) (h : AnsweredBy gs d (reporting sheet place) (reported r))
+    → JointEstimate (sittingFor (h .its .named) (h .its .strings)) r
 unfolding askAnswer
 own gs d sheet place r h =
     let o = h .its .named in
     let w = h .its .strings in
     let few = h .fits .alphabet-fewest in
-    let is : JointEstimate (sittingFor o w) r =
-    subst (JointEstimate (sittingFor o w)) (sym (own-report o w (h .progress) (h .stands)) ∙ same-report (h .answer)) (joint-estimate (sittingFor o w) (omega arith)) in
-    record { its = h .its; estimate = is; zero-above = strings-zero o w r (h .stands .over) is }
+    subst (JointEstimate (sittingFor o w)) (sym (own-report o w (h .progress) (h .stands)) ∙ same-report (h .answer)) (joint-estimate (sittingFor o w) (omega arith))
+
+-- .. and so the report is theirs
+theirs : (gs : List (Course rules)) (d sheet place : ℕ) (r : Reported) → AnsweredBy gs d (reporting sheet place) (reported r) → OfItsStrings gs d r
+theirs gs d sheet place r h =
+    let is = own gs d sheet place r h in
+    record { its = h .its; estimate = is; zero-above = strings-zero (h .its .named) (h .its .strings) r (h .stands .over) is }
 
 pub demand-2 : Demand2
 demand-2 K σ τ cs os made run before behind said saying d sheet place r many called answered-so =
     let far = up-to before behind said saying many (rw (called, answered-so) at run) in
-    own _ d sheet place r (next-answer K σ (far .now) (far .next) before said made (far .run) d (reporting sheet place) (reported r) (far .does))
+    theirs _ d sheet place r (next-answer K σ (far .now) (far .next) before said made (far .run) d (reporting sheet place) (reported r) (far .does))

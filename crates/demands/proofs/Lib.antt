@@ -14,3 +14,4 @@ pub mod PossibleReport
 pub mod Possible
 pub mod Replays
 pub mod Short
+pub mod Weight

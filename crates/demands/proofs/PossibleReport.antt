@@ -48,7 +48,7 @@ module _ (σ : List ℕ) (d sheet place : ℕ) where
 
     module _ (o : Opening) (p : Progress) (near : d < desks) (e : meaning σ .at d ≡ opened o p) (n : o .depth < p .size first) (m : o .depth < p .size second) where
       abbrev x : Sitting
-      x = sat (o .symbols) (o .depth) p
+      x = sat (o .symbols) (o .depth) (o .weight) p
 
       rows : place + length (reportOf x) ≤ length blank / rowWidth → CanDo σ (atDesk d (asking (reporting sheet place)))
       rows fits =

@@ -23,7 +23,7 @@ pub record OpenAt (σ : List ℕ) (d : ℕ) : Type 0 where
 
 -- the sitting there
 abbrev pub sittingThere : {σ : List ℕ} {d : ℕ} → OpenAt σ d → Sitting
-sittingThere o = sat (o .named .symbols) (o .named .depth) (o .progress)
+sittingThere o = sat (o .named .symbols) (o .named .depth) (o .named .weight) (o .progress)
 
 -- the report r is the joint estimate of the counts that stand there, with "0 for symbols from A up"
 pub record ReportAt (σ : List ℕ) (d : ℕ) (r : Reported) : Type 0 where

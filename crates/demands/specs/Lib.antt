@@ -6,3 +6,4 @@ pub mod Replays
 pub mod AnyStore
 pub mod Charts
 pub mod Short
+pub mod Weight

@@ -1,12 +1,13 @@
 -- "The eleven marked examples (six values, J1 to J5) are proved together by a single statement over a list." Request E2 adds the value of 4,096, and E3
--- the empty context's counts in J1; by E8 J5 is refused. The J examples are told of the room's machine: a desk of a new room is opened, the first sample is fed, then the
--- second, and a report is asked for. Beside them stand two with more than two symbols, since no J example tests the factor A - 1. Assumes nothing.
+-- the empty context's counts in J1; by E8 J5 is refused; by E5 each is of weight 4, with four times its score. The J examples are told of the room's machine: a desk of a new room is opened, the first sample is fed, then the
+-- second, and a report is asked for. Beside them stand two with more than two symbols, since no J example tests the factor A - 1, and two
+-- at the limits of the weight. Assumes nothing.
 use Prim.Native.Nat.{ℕ}
 use mathlib.Core.Path.{_≡_}
 use mathlib.Core.List.{List, [], _∷_, _++_, map}
 use lib.ListN.{take, replicate}
 use lib.IntN.{ℤ, pos, negℤ}
-use Rattle.numbers.specs.Limits.{mostSymbols}
+use Rattle.numbers.specs.Limits.{mostSymbols, mostWeight, plainWeight}
 use Rattle.logarithm.specs.Logarithm.{L}
 use Rattle.rows.specs.Rows.{numbersOf}
 use Rattle.contexts.specs.Sitting.{Sample, first, second, eight, Progress}
@@ -22,13 +23,13 @@ use Rattle.rules.specs.Rules.{Answer, done, contextsLeft, reported, point, feed
 abbrev pub feeds : ℕ → List ℕ → List (Call rules)
 feeds i w = map (λ a. atDesk 0 (asking (feed i a))) w
 
--- desk 0 opened with A, D and r, the two samples fed, and a report on a sheet of 44 numbers from row 0 on
-abbrev pub callsOf : ℕ → ℕ → ℕ → List ℕ → List ℕ → List (Call rules)
-callsOf A D r w v = atDesk 0 (opening (record { symbols = A; depth = D; reserve = r })) ∷ (feeds 0 w ++ (feeds 1 v ++ (atDesk 0 (asking (reporting 44 0)) ∷ [])))
+-- desk 0 opened with A, D, a weight W and r, the two samples fed, and a report on a sheet of 44 numbers from row 0 on
+abbrev pub callsOf : ℕ → ℕ → ℕ → ℕ → List ℕ → List ℕ → List (Call rules)
+callsOf A D W r w v = atDesk 0 (opening (record { symbols = A; depth = D; weight = W; reserve = r })) ∷ (feeds 0 w ++ (feeds 1 v ++ (atDesk 0 (asking (reporting 44 0)) ∷ [])))
 
 -- ---- what is told
 
--- a call was done, or refused by its number; or its rows, each as its eleven numbers, and the doubled score
+-- a call was done, or refused by its number; or its rows, each as its eleven numbers, and the score
 pub data Said : Type 0 where
   did : Said
   refusedWith : ℕ → Said
@@ -49,19 +50,19 @@ row kind len code counts = kind ∷ len ∷ code ∷ take mostSymbols (counts ++
 -- ---- examples
 
 -- desk 0 of a new room after these calls
-abbrev pub deskAfter : ℕ → ℕ → ℕ → List ℕ → List ℕ → Desk Progress
-deskAfter A D r w v = after rules (new r) (callsOf A D r w v) .at 0
+abbrev pub deskAfter : ℕ → ℕ → ℕ → ℕ → List ℕ → List ℕ → Desk Progress
+deskAfter A D W r w v = after rules (new r) (callsOf A D W r w v) .at 0
 
 -- what an open desk's sitting has counted of a context in a sample, symbol by symbol
 abbrev pub countsAt : Desk Progress → Sample → List ℕ → List ℕ
 countsAt closed i s = []
 countsAt (opened o p) i s = take (o .symbols) (eight (p .count i s))
 
--- L(n); or the calls of a sitting with A, D, r and two samples, on a new room of r contexts; or the counts of a context in each sample after these
+-- L(n); or the calls of a sitting with A, D, W, r and two samples, on a new room of r contexts; or the counts of a context in each sample after these
 pub data Question : Type 0 where
   logarithm : ℕ → Question
-  sitting : ℕ → ℕ → ℕ → List ℕ → List ℕ → Question
-  counting : List ℕ → ℕ → ℕ → ℕ → List ℕ → List ℕ → Question
+  sitting : ℕ → ℕ → ℕ → ℕ → List ℕ → List ℕ → Question
+  counting : List ℕ → ℕ → ℕ → ℕ → ℕ → List ℕ → List ℕ → Question
 
 -- a value; or: everything is done, and the report has these rows and this score; or: what each call is told; or: the first's counts and the second's
 pub data Given : Type 0 where
@@ -82,15 +83,15 @@ pub data Worked : Type 0 where
 -- what the model answers
 abbrev pub answered-to : Question → Worked
 answered-to (logarithm n) = isValue (L n)
-answered-to (sitting A D r w v) = areSaid (map say (outcomes rules (new r) (callsOf A D r w v)))
-answered-to (counting s A D r w v) = areCounts (countsAt (deskAfter A D r w v) first s) (countsAt (deskAfter A D r w v) second s)
+answered-to (sitting A D W r w v) = areSaid (map say (outcomes rules (new r) (callsOf A D W r w v)))
+answered-to (counting s A D W r w v) = areCounts (countsAt (deskAfter A D W r w v) first s) (countsAt (deskAfter A D W r w v) second s)
 
 -- what the example says
 abbrev pub expected : Question → Given → Worked
 expected q (value k) = isValue k
-expected (sitting A D r w v) (reports ls n) = areSaid (did ∷ (map (λ a. did) w ++ (map (λ a. did) v ++ (rows ls n ∷ []))))
+expected (sitting A D W r w v) (reports ls n) = areSaid (did ∷ (map (λ a. did) w ++ (map (λ a. did) v ++ (rows ls n ∷ []))))
 expected (logarithm n) (reports ls s) = areSaid []
-expected (counting s A D r w v) (reports ls n) = areSaid []
+expected (counting s A D W r w v) (reports ls n) = areSaid []
 expected q (each ts) = areSaid ts
 expected q (inEach x y) = areCounts x y
 
@@ -115,18 +116,26 @@ marked =
     ∷ logarithm 1023 gives value 10238
     ∷ logarithm 1024 gives value 10240
     ∷ logarithm 4096 gives value 12288
-    ∷ sitting 2 1 3 (0 ∷ 1 ∷ 0 ∷ 1 ∷ []) (0 ∷ 1 ∷ 0 ∷ 1 ∷ []) gives reports (row 0 1 0 (0 ∷ 4 ∷ []) ∷ row 0 1 1 (2 ∷ 0 ∷ []) ∷ []) (negℤ (pos 6144))
-    ∷ sitting 2 1 2 (0 ∷ 1 ∷ 0 ∷ []) [] gives each (did ∷ did ∷ did ∷ refusedWith 10 ∷ refusedWith 11 ∷ [])
-    ∷ counting [] 2 1 3 (0 ∷ 1 ∷ 0 ∷ 1 ∷ []) (0 ∷ 1 ∷ 0 ∷ 1 ∷ []) gives inEach (1 ∷ 2 ∷ []) (1 ∷ 2 ∷ [])
-    ∷ sitting 2 1 3 (0 ∷ 1 ∷ 0 ∷ 1 ∷ []) (0 ∷ 0 ∷ 0 ∷ 0 ∷ []) gives reports (row 2 0 0 (3 ∷ 0 ∷ []) ∷ row 1 1 0 (0 ∷ 2 ∷ []) ∷ row 1 1 1 (1 ∷ 0 ∷ []) ∷ []) (negℤ (pos 6144))
-    ∷ sitting 2 1 3 (0 ∷ 1 ∷ 0 ∷ 1 ∷ 0 ∷ 1 ∷ 0 ∷ 1 ∷ []) (0 ∷ 0 ∷ 1 ∷ 0 ∷ 0 ∷ 1 ∷ 0 ∷ 0 ∷ []) gives reports (row 1 1 0 (0 ∷ 4 ∷ []) ∷ row 2 1 0 (3 ∷ 2 ∷ []) ∷ row 0 1 1 (5 ∷ 0 ∷ []) ∷ []) (negℤ (pos 20176))
-    ∷ sitting 2 0 1 (0 ∷ 1 ∷ 0 ∷ 1 ∷ []) (0 ∷ 1 ∷ 0 ∷ 1 ∷ []) gives reports (row 0 0 0 (4 ∷ 4 ∷ []) ∷ []) (negℤ (pos 19456))
-    ∷ sitting 2 1 1 (0 ∷ []) (0 ∷ []) gives each (did ∷ did ∷ did ∷ refusedWith 24 ∷ [])
+    ∷ sitting 2 1 plainWeight 3 (0 ∷ 1 ∷ 0 ∷ 1 ∷ []) (0 ∷ 1 ∷ 0 ∷ 1 ∷ []) gives reports (row 0 1 0 (0 ∷ 4 ∷ []) ∷ row 0 1 1 (2 ∷ 0 ∷ []) ∷ []) (negℤ (pos 24576))
+    ∷ sitting 2 1 plainWeight 2 (0 ∷ 1 ∷ 0 ∷ []) [] gives each (did ∷ did ∷ did ∷ refusedWith 10 ∷ refusedWith 11 ∷ [])
+    ∷ counting [] 2 1 plainWeight 3 (0 ∷ 1 ∷ 0 ∷ 1 ∷ []) (0 ∷ 1 ∷ 0 ∷ 1 ∷ []) gives inEach (1 ∷ 2 ∷ []) (1 ∷ 2 ∷ [])
+    ∷ sitting 2 1 plainWeight 3 (0 ∷ 1 ∷ 0 ∷ 1 ∷ []) (0 ∷ 0 ∷ 0 ∷ 0 ∷ []) gives reports (row 2 0 0 (3 ∷ 0 ∷ []) ∷ row 1 1 0 (0 ∷ 2 ∷ []) ∷ row 1 1 1 (1 ∷ 0 ∷ []) ∷ []) (negℤ (pos 24576))
+    ∷ sitting 2 1 plainWeight 3 (0 ∷ 1 ∷ 0 ∷ 1 ∷ 0 ∷ 1 ∷ 0 ∷ 1 ∷ []) (0 ∷ 0 ∷ 1 ∷ 0 ∷ 0 ∷ 1 ∷ 0 ∷ 0 ∷ []) gives reports (row 1 1 0 (0 ∷ 4 ∷ []) ∷ row 2 1 0 (3 ∷ 2 ∷ []) ∷ row 0 1 1 (5 ∷ 0 ∷ []) ∷ []) (negℤ (pos 80704))
+    ∷ sitting 2 0 plainWeight 1 (0 ∷ 1 ∷ 0 ∷ 1 ∷ []) (0 ∷ 1 ∷ 0 ∷ 1 ∷ []) gives reports (row 0 0 0 (4 ∷ 4 ∷ []) ∷ []) (negℤ (pos 77824))
+    ∷ sitting 2 1 plainWeight 1 (0 ∷ []) (0 ∷ []) gives each (did ∷ did ∷ did ∷ refusedWith 24 ∷ [])
     ∷ []
 
 -- a split of both with a context that is each sample's own, at A = 3; a shared leaf at A = 8
 unfoldable pub wider : List Example
 wider =
-    sitting 3 2 8 (0 ∷ 1 ∷ 2 ∷ 0 ∷ 1 ∷ 2 ∷ 0 ∷ 1 ∷ 2 ∷ 0 ∷ 1 ∷ 2 ∷ []) (0 ∷ 1 ∷ 1 ∷ 2 ∷ 0 ∷ 1 ∷ 1 ∷ 2 ∷ 0 ∷ 1 ∷ 1 ∷ 2 ∷ []) gives reports (row 0 1 0 (0 ∷ 5 ∷ 0 ∷ []) ∷ row 1 1 1 (0 ∷ 0 ∷ 4 ∷ []) ∷ row 2 1 1 (0 ∷ 3 ∷ 3 ∷ []) ∷ row 0 1 2 (5 ∷ 0 ∷ 0 ∷ []) ∷ []) (negℤ (pos 45752))
-    ∷ sitting 8 1 4 (0 ∷ 7 ∷ 0 ∷ 7 ∷ 0 ∷ 7 ∷ 0 ∷ 7 ∷ 0 ∷ 7 ∷ []) (0 ∷ 7 ∷ 0 ∷ 7 ∷ 0 ∷ 7 ∷ 0 ∷ 7 ∷ 0 ∷ 1 ∷ []) gives reports (row 0 0 0 (8 ∷ 1 ∷ 0 ∷ 0 ∷ 0 ∷ 0 ∷ 0 ∷ 9 ∷ []) ∷ []) (negℤ (pos 77115))
+    sitting 3 2 plainWeight 8 (0 ∷ 1 ∷ 2 ∷ 0 ∷ 1 ∷ 2 ∷ 0 ∷ 1 ∷ 2 ∷ 0 ∷ 1 ∷ 2 ∷ []) (0 ∷ 1 ∷ 1 ∷ 2 ∷ 0 ∷ 1 ∷ 1 ∷ 2 ∷ 0 ∷ 1 ∷ 1 ∷ 2 ∷ []) gives reports (row 0 1 0 (0 ∷ 5 ∷ 0 ∷ []) ∷ row 1 1 1 (0 ∷ 0 ∷ 4 ∷ []) ∷ row 2 1 1 (0 ∷ 3 ∷ 3 ∷ []) ∷ row 0 1 2 (5 ∷ 0 ∷ 0 ∷ []) ∷ []) (negℤ (pos 183008))
+    ∷ sitting 8 1 plainWeight 4 (0 ∷ 7 ∷ 0 ∷ 7 ∷ 0 ∷ 7 ∷ 0 ∷ 7 ∷ 0 ∷ 7 ∷ []) (0 ∷ 7 ∷ 0 ∷ 7 ∷ 0 ∷ 7 ∷ 0 ∷ 7 ∷ 0 ∷ 1 ∷ []) gives reports (row 0 0 0 (8 ∷ 1 ∷ 0 ∷ 0 ∷ 0 ∷ 0 ∷ 0 ∷ 9 ∷ []) ∷ []) (negℤ (pos 308460))
+    ∷ []
+
+-- J3's strings at both limits of the weight. At 0 splits are free: two separate trees score as much as the split of both that J3 reports, and go first. At 16
+-- one shared context is left
+unfoldable pub weighted : List Example
+weighted =
+    sitting 2 1 0 3 (0 ∷ 1 ∷ 0 ∷ 1 ∷ 0 ∷ 1 ∷ 0 ∷ 1 ∷ []) (0 ∷ 0 ∷ 1 ∷ 0 ∷ 0 ∷ 1 ∷ 0 ∷ 0 ∷ []) gives reports (row 1 1 0 (0 ∷ 4 ∷ []) ∷ row 2 1 0 (3 ∷ 2 ∷ []) ∷ row 1 1 1 (3 ∷ 0 ∷ []) ∷ row 2 1 1 (2 ∷ 0 ∷ []) ∷ []) (negℤ (pos 39744))
+    ∷ sitting 2 1 mostWeight 3 (0 ∷ 1 ∷ 0 ∷ 1 ∷ 0 ∷ 1 ∷ 0 ∷ 1 ∷ []) (0 ∷ 0 ∷ 1 ∷ 0 ∷ 0 ∷ 1 ∷ 0 ∷ 0 ∷ []) gives reports (row 0 0 0 (8 ∷ 6 ∷ []) ∷ []) (negℤ (pos 178448))
     ∷ []

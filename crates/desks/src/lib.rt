@@ -19,6 +19,7 @@ use numbers::DEEPEST;
 use numbers::DESKS;
 use numbers::FEWEST_SYMBOLS;
 use numbers::MOST_SYMBOLS;
+use numbers::MOST_WEIGHT;
 use recording::remove_desk;
 use soundness::reserved;
 use soundness::sound;
@@ -32,11 +33,19 @@ use store::layout::RESERVE;
 use store::layout::ROOM;
 use store::layout::SYMBOLS;
 use store::layout::USED;
+use store::layout::WEIGHT;
 use store::layout::field_at;
 
-// Opens a desk for an alphabet and a depth, and reserves it room. Both samples are empty.
-pub fn open(store: &mut [u32], desk: u32, alphabet: u32, depth: u32, reservation: u32) -> Verdict
-    ensures { λ r. ⌜ Moves (now (store .entry)) (atDesk desk (opening (naming alphabet depth reservation))) (outcomeOf r) (now (store .exit)) ⌝ }
+// Opens a desk for an alphabet, a depth and a weight in quarters, and reserves it room. Both samples are empty.
+pub fn open(
+    store: &mut [u32],
+    desk: u32,
+    alphabet: u32,
+    depth: u32,
+    weight: u32,
+    reservation: u32,
+) -> Verdict
+    ensures { λ r. ⌜ Moves (now (store .entry)) (atDesk desk (opening (naming alphabet depth weight reservation))) (outcomeOf r) (now (store .exit)) ⌝ }
 {
     if !sound(store) {
         return Verdict::Refused(Refusal::Unsound);
@@ -50,7 +59,10 @@ pub fn open(store: &mut [u32], desk: u32, alphabet: u32, depth: u32, reservation
     if outside_limits(alphabet, depth) {
         return Verdict::Refused(Refusal::OutsideLimits);
     }
-    open_reserving(store, desk, alphabet, depth, reservation)
+    if MOST_WEIGHT < weight {
+        return Verdict::Refused(Refusal::WeightOutside);
+    }
+    open_reserving(store, desk, alphabet, depth, weight, reservation)
 }
 
 // Refusal 6 or 7, or the opening: what the other refusals left.
@@ -59,10 +71,11 @@ fn open_reserving(
     desk: u32,
     alphabet: u32,
     depth: u32,
+    weight: u32,
     reservation: u32,
 ) -> Verdict
-    requires { ⌜ Openable (now store) desk (naming alphabet depth reservation) ⌝ }
-    ensures { λ r. ⌜ Moves (now (store .entry)) (atDesk desk (opening (naming alphabet depth reservation))) (outcomeOf r) (now (store .exit)) ⌝ }
+    requires { ⌜ Openable (now store) desk (naming alphabet depth weight reservation) ⌝ }
+    ensures { λ r. ⌜ Moves (now (store .entry)) (atDesk desk (opening (naming alphabet depth weight reservation))) (outcomeOf r) (now (store .exit)) ⌝ }
 {
     if reservation == 0 {
         return Verdict::Refused(Refusal::BadReservation);
@@ -75,7 +88,7 @@ fn open_reserving(
     if free < reservation {
         return Verdict::Refused(Refusal::NoRoom);
     }
-    set_up(store, desk as usize, alphabet, depth, reservation);
+    set_up(store, desk as usize, alphabet, depth, weight, reservation);
     Verdict::Done
 }
 
@@ -108,7 +121,7 @@ pub fn room_left(store: &[u32]) -> RoomLeft
 
 // Whether an alphabet or a depth is outside its limits.
 fn outside_limits(alphabet: u32, depth: u32) -> bool
-    ensures { λ r. ⌜ ((reserve : ℕ) → r ≡ outsideLimits (naming alphabet depth reserve)) ⌝ }
+    ensures { λ r. ⌜ ((weight reserve : ℕ) → r ≡ outsideLimits (naming alphabet depth weight reserve)) ⌝ }
 {
     if alphabet < FEWEST_SYMBOLS {
         return true;
@@ -128,19 +141,19 @@ fn left_in(store: &[u32]) -> u32
 }
 
 // Writes the numbers of a desk that opens.
-fn set_up(store: &mut [u32], desk: usize, alphabet: u32, depth: u32, reservation: u32)
+fn set_up(store: &mut [u32], desk: usize, alphabet: u32, depth: u32, weight: u32, reservation: u32)
     requires { ⌜ (headerSize ≤ length (now store)) × (desk < desks) ⌝ }
-    ensures { λ _. ⌜ Opened (now (store .entry)) (now (store .exit)) desk (naming alphabet depth reservation) ⌝ }
+    ensures { λ _. ⌜ Opened (now (store .entry)) (now (store .exit)) desk (naming alphabet depth weight reservation) ⌝ }
 {
     let from = FIRST_DESK + DESK_SIZE * desk;
     let to = from + DESK_NUMBERS;
-    lay_out(&mut store[from..to], alphabet, depth, reservation);
+    lay_out(&mut store[from..to], alphabet, depth, weight, reservation);
 }
 
 // The numbers of a desk that opens, over the whole part.
-fn lay_out(part: &mut [u32], alphabet: u32, depth: u32, reservation: u32)
+fn lay_out(part: &mut [u32], alphabet: u32, depth: u32, weight: u32, reservation: u32)
     requires { ⌜ length (now part) ≡ deskNumbers ⌝ }
-    ensures { λ _. ⌜ now (part .exit) ≡ freshDesk (naming alphabet depth reservation) ⌝ }
+    ensures { λ _. ⌜ now (part .exit) ≡ freshDesk (naming alphabet depth weight reservation) ⌝ }
 {
     let mut i: usize = 0;
     while i < DESK_NUMBERS {
@@ -150,6 +163,7 @@ fn lay_out(part: &mut [u32], alphabet: u32, depth: u32, reservation: u32)
     part[OPEN] = 1;
     part[SYMBOLS] = alphabet;
     part[DEPTH] = depth;
+    part[WEIGHT] = weight;
     part[RESERVE] = reservation;
 }
 

@@ -12,9 +12,9 @@ minus n = negℤ (pos n)
 pub minus-add : (a b : ℕ) → minus a +ℤ minus b ≡ minus (a + b)
 minus-add a b = sym (negℤ-+ℤ (pos a) (pos b)) ∙ ap negℤ (pos-+ℤ-pos a b)
 
-pub minus-double : (c : ℕ) → pos 2 *ℤ minus c ≡ minus (2 * c)
-minus-double zero = refl
-minus-double (suc c) = refl
+pub minus-times : (b c : ℕ) → pos b *ℤ minus c ≡ minus (b * c)
+minus-times b zero = let z : b * 0 ≡ 0 = omega arith in rw z refl
+minus-times b (suc c) = refl
 
 pub minus-less : (a b : ℕ) → a ≤ b → pos a -ℤ pos b ≡ minus (b - a)
 minus-less a b l =

@@ -117,7 +117,7 @@ estimate-keeps A D f p = record {
   separate = λ i s d c q g n. subst (LeafRule A d (minusAll (from s f) (own i))) (sym (own-from A D f i p s d c q g n)) (leaf-first A d (from s f (own i)));
 }
 
--- THEOREM, of a sitting: with document 01's fits and costs
+-- THEOREM, of a sitting: with the documents' fits and costs
 pub ties-of : (x : Sitting) → 0 < x .symbols → KeepsTies (x .symbols) (x .depth) (worths x) (estimateOf x)
 ties-of x p =
     subst (λ (w : Worths). KeepsTies (x .symbols) (x .depth) w (estimateOf x)) (sym (worths-losses x)) (estimate-keeps (x .symbols) (x .depth) (losses x) p)

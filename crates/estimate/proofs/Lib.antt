@@ -13,3 +13,5 @@ pub mod Spreads
 pub mod Tables
 pub mod Adding
 pub mod Agreeing
+pub mod Scale
+pub mod Doubled

@@ -9,14 +9,14 @@ use lib.IntN.{ℤ, pos, _+ℤ_, _-ℤ_, _*ℤ_}
 use lib.Signed.{_≤ℤ_}
 use Rattle.numbers.specs.Sum.{sum}
 use Rattle.numbers.proofs.Sums.{sum-zero}
-use Rattle.logarithm.proofs.Weights.{weights-le}
+use Rattle.logarithm.proofs.Terms.{terms-le}
 use Rattle.contexts.specs.Strings.{under, total}
 use Rattle.contexts.specs.Sitting.{first, second, Sitting}
 use Rattle.contexts.proofs.Totalling.{total-add}
 use Rattle.estimate.specs.Trees.{Contexts, Kind, shared, own, Triple}
-use Rattle.estimate.specs.Score.{counts, sizeOf, weights, whole, fit, cost, Worths, worths, sumℤ, totalℤ, setScore, score}
+use Rattle.estimate.specs.Score.{counts, sizeOf, terms, whole, fitTimes, fit, cost, Worths, worths, sumℤ, totalℤ, setScore, score}
 use Rattle.estimate.specs.Recursion.{Losses, spread, losses}
-use Rattle.estimate.proofs.Integers.{minus, minus-add, minus-double, minus-less, minus-le, le-minus}
+use Rattle.estimate.proofs.Integers.{minus, minus-add, minus-times, minus-less, minus-le, le-minus}
 
 -- what the string s adds to the loss of a set: its own loss where it is a member, and else 0
 abbrev pub setLoss : (List ℕ → ℕ) → Contexts → List ℕ → ℕ
@@ -47,14 +47,14 @@ minusAll f k s = minus (f k s)
 
 pub fit-spread : (A : ℕ) (c : ℕ → ℕ) → fit A c ≡ minus (spread A c)
 unfolding spread
-fit-spread A c = ap (λ (z : ℤ). pos 2 *ℤ z) (minus-less (weights A c) (whole A c) (weights-le A c)) ∙ minus-double (whole A c - weights A c)
+fit-spread A c = ap (λ (z : ℤ). pos fitTimes *ℤ z) (minus-less (terms A c) (whole A c) (terms-le A c)) ∙ minus-times fitTimes (whole A c - terms A c)
 
 pub worths-losses : (x : Sitting) → worths x ≡ minusAll (losses x)
 worths-losses x = fun-ext (λ k. fun-ext (λ s. one k s))
   where
     one : (k : Kind) (s : List ℕ) → worths x k s ≡ minus (losses x k s)
     one k s =
-        let c = cost (x .symbols) (sizeOf x k) in
+        let c = cost (x .weight) (x .symbols) (sizeOf x k) in
         let p = spread (x .symbols) (counts x k s) in
         ap (λ (z : ℤ). z -ℤ pos c) (fit-spread (x .symbols) (counts x k s)) ∙ minus-add p c ∙ ap minus (add-comm p c)
 

@@ -19,7 +19,7 @@ estimate-best A D f p =
       most = λ u c. more-score A D f u (estimate A D f) (omega (arith, joint-least A D f u c, estimate-loss A D f));
     }
 
--- THEOREM, of a sitting: with document 01's fits and costs
+-- THEOREM, of a sitting: with the documents' fits and costs
 pub best-of : (x : Sitting) → 0 < x .symbols → Best (x .symbols) (x .depth) (worths x) (estimateOf x)
 best-of x p =
     subst (λ (w : Worths). Best (x .symbols) (x .depth) w (estimateOf x)) (sym (worths-losses x)) (estimate-best (x .symbols) (x .depth) (losses x) p)

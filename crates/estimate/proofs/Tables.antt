@@ -36,11 +36,11 @@ kind-none x (own i) s a e = e i
 
 -- THEOREM. The code's losses of a context's table are the model's
 pub table-losses : (x : Sitting) (s : List ℕ) (costs r : ByKind) → x .symbols ≤ mostSymbols → ((i : Sample) (a : ℕ) → x .symbols ≤ a → x .count i s a ≡ 0)
-    → CostsOf (x .symbols) (x .size first) (x .size second) costs → LossesOf (table x s) costs r → (k : Kind) → forKind r k ≡ losses x k s
+    → CostsOf (x .weight) (x .symbols) (x .size first) (x .size second) costs → LossesOf (table x s) costs r → (k : Kind) → forKind r k ≡ losses x k s
 table-losses x s costs r few none p l k =
     each k ∙ ap₂ _+_ (price k) (spread-cong mostSymbols (table-counts x s k) ∙ spread-past (x .symbols) mostSymbols (counts x k s) few (λ a h. kind-none x k s a (λ i. none i a h)))
   where
-    price : (k : Kind) → forKind costs k ≡ cost (x .symbols) (sizeOf x k)
+    price : (k : Kind) → forKind costs k ≡ cost (x .weight) (x .symbols) (sizeOf x k)
     price shared = p .shared
     price (own first) = p .first
     price (own second) = p .second

@@ -106,25 +106,15 @@ estimate-unique A D f t p =
     Part : ℕ → Losses → Triple → Type 0
     Part D f u = (t : Triple) → Admissible A D t → loss A D f t ≤ joint A D f → KeepsTies A D (minusAll f) t → t ≡ u
 
--- THEOREM, of a sitting: with document 01's fits and costs
+-- .. told by the score
+pub only-best : (A D : ℕ) (f : Losses) (t : Triple) → 0 < A → Best A D (minusAll f) t → KeepsTies A D (minusAll f) t → t ≡ estimate A D f
+only-best A D f t p b r = estimate-unique A D f t p (b .admissible) low r
+  where
+    low : loss A D f t ≤ joint A D f
+    low = omega (arith, estimate-loss A D f, less-loss A D f (estimate A D f) t (b .most (estimate A D f) (estimate-admissible A D f p)))
+
+-- THEOREM, of a sitting: with the documents' fits and costs
 pub only-estimate : (x : Sitting) (t : Triple) → 0 < x .symbols → Best (x .symbols) (x .depth) (worths x) t → KeepsTies (x .symbols) (x .depth) (worths x) t → t ≡ estimateOf x
 only-estimate x t p b r =
-    estimate-unique A D f t p (b .admissible) low (subst (λ (w : Worths). KeepsTies A D w t) (worths-losses x) r)
-  where
-    A : ℕ
-    A = x .symbols
-
-    D : ℕ
-    D = x .depth
-
-    f : Losses
-    f = losses x
-
-    low : loss A D f t ≤ joint A D f
-    low =
-        omega (
-          arith,
-          estimate-loss A D f,
-          less-loss A D f (estimate A D f) t
-              (subst (λ (w : Worths). score A D w (estimate A D f) ≤ℤ score A D w t) (worths-losses x) (b .most (estimate A D f) (estimate-admissible A D f p))),
-        )
+    only-best (x .symbols) (x .depth) (losses x) t p (subst (λ (w : Worths). Best (x .symbols) (x .depth) w t) (worths-losses x) b)
+    (subst (λ (w : Worths). KeepsTies (x .symbols) (x .depth) w t) (worths-losses x) r)

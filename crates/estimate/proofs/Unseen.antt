@@ -82,7 +82,7 @@ unseen A (suc d) f p e = go (leb (f shared []) _) (lebView (f shared []) (f (own
 
 -- ---- an unseen context
 
-pub unseen-losses : (x : Sitting) (k : Kind) (s : List ℕ) → ((a : ℕ) → counts x k s a ≡ 0) → losses x k s ≡ cost (x .symbols) (sizeOf x k)
+pub unseen-losses : (x : Sitting) (k : Kind) (s : List ℕ) → ((a : ℕ) → counts x k s a ≡ 0) → losses x k s ≡ cost (x .weight) (x .symbols) (sizeOf x k)
 unseen-losses x k s e = omega (arith, unseen-spread (x .symbols) (counts x k s) e)
 
 -- a string below which nothing is counted is flat, so the estimate does not go below it

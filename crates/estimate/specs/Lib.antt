@@ -4,3 +4,4 @@ pub mod Ties
 pub mod Recursion
 pub mod Table
 pub mod Adding
+pub mod Doubled

@@ -8,7 +8,7 @@ use Rattle.numbers.specs.Sum.{sum}
 use Rattle.contexts.specs.Strings.{under}
 use Rattle.contexts.specs.Sitting.{first, second, Sitting}
 use Rattle.estimate.specs.Trees.{Contexts, Kind, shared, own, Triple, root, sharedLeaf, separateTrees, below}
-use Rattle.estimate.specs.Score.{counts, sizeOf, weights, whole, cost}
+use Rattle.estimate.specs.Score.{counts, sizeOf, terms, whole, fitTimes, cost}
 
 -- what each context would lose as a member of each kind
 abbrev pub Losses : Type 0
@@ -16,10 +16,10 @@ Losses = Kind → List ℕ → ℕ
 
 -- the fit with its sign turned
 unfoldable pub spread : ℕ → (ℕ → ℕ) → ℕ
-spread A c = 2 * (whole A c - weights A c)
+spread A c = fitTimes * (whole A c - terms A c)
 
 abbrev pub losses : Sitting → Losses
-losses x k s = cost (x .symbols) (sizeOf x k) + spread (x .symbols) (counts x k s)
+losses x k s = cost (x .weight) (x .symbols) (sizeOf x k) + spread (x .symbols) (counts x k s)
 
 -- ---- From the leaves to the root. d is the depth left below the string where the recursion stands, and f the losses as seen from there.
 

@@ -1,4 +1,5 @@
--- Fit, cost and score, in whole numbers of either sign, in the words of document 01 ("Counts and score"). Assumes nothing.
+-- Fit, cost and score, in whole numbers of either sign, in the words of document 01 ("Counts and score") and of document 02 (E5, the weight).
+-- Assumes nothing.
 use Prim.Native.Nat.{ℕ, zero, suc, _+_, _-_, _*_}
 use mathlib.Core.Bool.{cond}
 use mathlib.Core.List.{List, []}
@@ -23,26 +24,34 @@ abbrev pub sizeOf : Sitting → Kind → ℕ
 sizeOf x k = ofKind k (x .size)
 
 -- "sum of c·L(c)", and "t·L(t)"
-abbrev pub weights : ℕ → (ℕ → ℕ) → ℕ
-weights A c = sum A (λ a. c a * L (c a))
+abbrev pub terms : ℕ → (ℕ → ℕ) → ℕ
+terms A c = sum A (λ a. c a * L (c a))
 
 abbrev pub whole : ℕ → (ℕ → ℕ) → ℕ
 whole A c = sum A c * L (sum A c)
 
--- "fit = 2 times (sum of c·L(c), less t·L(t))"
-abbrev pub fit : ℕ → (ℕ → ℕ) → ℤ
-fit A c = pos 2 *ℤ (pos (weights A c) -ℤ pos (whole A c))
+-- "its fit is taken eightfold"
+abbrev pub fitTimes : ℕ
+fitTimes = 8
 
--- "A context costs (A-1)·L(n) .., (A-1)·L(m) .., (A-1)·L(n+m) when shared"
-abbrev pub cost : ℕ → ℕ → ℕ
-cost A n = (A - 1) * L n
+-- so many times "sum of c·L(c), less t·L(t)"
+abbrev pub fit : ℕ → (ℕ → ℕ) → ℤ
+fit A c = pos fitTimes *ℤ (pos (terms A c) -ℤ pos (whole A c))
+
+-- "(A-1)·L(n) .., (A-1)·L(m) .., (A-1)·L(n+m) when shared": what a context costs for each quarter of the weight
+abbrev pub quarter : ℕ → ℕ → ℕ
+quarter A n = (A - 1) * L n
+
+-- "The penalty of a context becomes weight·(A-1)·L"
+abbrev pub cost : ℕ → ℕ → ℕ → ℕ
+cost W A n = W * quarter A n
 
 -- what a context of a kind adds to a score: its fit less its cost
 abbrev pub Worths : Type 0
 Worths = Kind → List ℕ → ℤ
 
 abbrev pub worths : Sitting → Worths
-worths x k s = fit (x .symbols) (counts x k s) -ℤ pos (cost (x .symbols) (sizeOf x k))
+worths x k s = fit (x .symbols) (counts x k s) -ℤ pos (cost (x .weight) (x .symbols) (sizeOf x k))
 
 -- sums over the symbols below a bound, and over all strings of at most d symbols, each below A
 unfoldable pub sumℤ : ℕ → (ℕ → ℤ) → ℤ

@@ -1,11 +1,11 @@
 -- "The counts of one context are a table of two samples by eight symbols": what the code of losses works on. Assumes nothing.
-use Prim.Native.Nat.{ℕ, _+_}
+use Prim.Native.Nat.{ℕ, _+_, _*_}
 use mathlib.Core.Path.{_≡_}
 use mathlib.Core.List.{List}
-use Rattle.numbers.specs.Limits.{mostSymbols}
+use Rattle.numbers.specs.Limits.{mostSymbols, mostWeight, mostCounted, topLog}
 use Rattle.contexts.specs.Sitting.{first, second, countIn}
 use Rattle.estimate.specs.Trees.{Kind, shared, own}
-use Rattle.estimate.specs.Score.{ofKind, cost}
+use Rattle.estimate.specs.Score.{ofKind, fitTimes, cost}
 use Rattle.estimate.specs.Recursion.{spread}
 use Rattle.estimate.specs.declared.ByKind.{ByKind}
 
@@ -19,11 +19,18 @@ forKind b shared = b .shared
 forKind b (own first) = b .first
 forKind b (own second) = b .second
 
--- what a context of each kind costs, where the samples have n and m symbols
-pub record CostsOf (A n m : ℕ) (r : ByKind) : Type 0 where
-  pub shared : r .shared ≡ cost A (n + m)
-  pub first : r .first ≡ cost A n
-  pub second : r .second ≡ cost A m
+-- what a context of each kind costs at weight W, where the samples have n and m symbols
+pub record CostsOf (W A n m : ℕ) (r : ByKind) : Type 0 where
+  pub shared : r .shared ≡ cost W A (n + m)
+  pub first : r .first ≡ cost W A n
+  pub second : r .second ≡ cost W A m
+
+-- no context costs more than this, and no fit takes away more
+abbrev pub mostCost : ℕ
+mostCost = mostWeight * (mostSymbols * topLog)
+
+abbrev pub mostSpread : ℕ
+mostSpread = fitTimes * (mostCounted * topLog)
 
 -- what the table's context loses as one of each kind
 pub record LossesOf (t : List (List ℕ)) (costs r : ByKind) : Type 0 where

@@ -10,7 +10,7 @@ use Rattle.numbers.proofs.Orders.{eq→eqb}
 use Rattle.contexts.specs.Sitting.{sampleOf}
 use Rattle.replay.specs.Table.{refused}
 use Rattle.replay.specs.Machine.{Call, asking, atDesk}
-use Rattle.store.specs.Layout.{field, sizeAt}
+use Rattle.store.specs.Layout.{openingNumbers, field, sizeAt}
 use Rattle.store.specs.Sound.{soundb}
 use Rattle.store.specs.Plain.{Open}
 use Rattle.rules.specs.Rules.{feed, rules}
@@ -41,7 +41,7 @@ module _ (s : List ℕ) (h : soundb s ≡ true) (d k a : ℕ) where
       pub refused-symbol : A ≤ a → Moves s call (refused 8) s
       refused-symbol l = moves-refused s call 8 h (no-symbol s d k a o one (omega arith))
 
-      module _ (below : a < A) (n : ℕ) (f : n ≡ field s d (4 + k)) where
+      module _ (below : a < A) (n : ℕ) (f : n ≡ field s d (openingNumbers + k)) where
         size-is : n ≡ sizeAt s d (sampleOf k)
         size-is = f ∙ ap (field s d) (size-number k one)
 

@@ -8,7 +8,7 @@ use lib.ListN.{length, drop, length-reverse}
 use lib.Dec.{eqb, ltb}
 use lib.IntN.{ℤ}
 use Rattle.contexts.specs.Sitting.{first, second, Progress, sat}
-use Rattle.numbers.specs.Limits.{rowWidth}
+use Rattle.numbers.specs.Limits.{plainWeight, rowWidth}
 use Rattle.rows.proofs.Written.{rows-read}
 use Rattle.replay.specs.Room.{Room}
 use Rattle.replay.specs.Table.{Line, _when_, lineNumber, applies, Outcome, refused, answered, verdictOf}
@@ -67,7 +67,7 @@ module _ (file : List ℕ) (shape : Shape) (h : Holds file shape) (sheet : ℕ) 
       let own = own-report (openingOf shape) (stringsIn file shape) p (s .stands) in
       let n = s .stands .sizes first ∙ length-reverse (firstOf file shape) ∙ h .first-count in
       let m = s .stands .sizes second ∙ length-reverse (secondOf file shape) ∙ h .second-count in
-      rw (s .at-desk) (ap (λ (k : ℕ). as-told k (p .size second) (report (sat (shape .alphabet) (shape .depth) p))) n ∙ ap₂ (as-told (shape .first)) m own)
+      rw (s .at-desk) (ap (λ (k : ℕ). as-told k (p .size second) (report (sat (shape .alphabet) (shape .depth) plainWeight p))) n ∙ ap₂ (as-told (shape .first)) m own)
 
 -- ---- what the report's promise makes of it
 

@@ -21,7 +21,7 @@ use Rattle.judgement.specs.Prints.{linesText, textOf}
 abbrev pub J3-file : List ℕ
 J3-file = 2 ∷ 1 ∷ 8 ∷ 8 ∷ 0 ∷ 1 ∷ 0 ∷ 1 ∷ 0 ∷ 1 ∷ 0 ∷ 1 ∷ 0 ∷ 0 ∷ 1 ∷ 0 ∷ 0 ∷ 1 ∷ 0 ∷ 0 ∷ []
 
-pub J3-text : textOf (judgement J3-file sheetNumbers) ≡ ascii "2 1 8 8 3 -20176\n1 1 0 0 4\n2 1 0 3 2\n0 1 1 5 0\n"
+pub J3-text : textOf (judgement J3-file sheetNumbers) ≡ ascii "2 1 8 8 3 -80704\n1 1 0 0 4\n2 1 0 3 2\n0 1 1 5 0\n"
 unfolding format.judgedNumber secondGroup firstGroup headerUpTo symbolsFrom bodyOf stringsIn judged verdictOf L sum codeOf N total sumℤ totalℤ spread best joint tree estimate gather members linesText textOf ascii spelled lineOf
 J3-text = refl
 

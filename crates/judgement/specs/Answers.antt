@@ -19,7 +19,7 @@ use Rattle.judgement.specs.Sitting.{runOf, Means}
 use Rattle.judgement.specs.declared.SittingAnswer.{SittingAnswer}
 use Rattle.judgement.specs.declared.SittingAnswer.the-variants.{Reported, Refused}
 
--- "A, D, n, m, row count, doubled score"
+-- "A, D, n, m, row count, score"
 abbrev pub headed : Shape → ℕ → ℤ → Head
 headed shape rows score = record {
   alphabet = shape .alphabet;

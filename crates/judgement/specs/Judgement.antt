@@ -4,6 +4,7 @@ use Prim.Native.Nat.{ℕ}
 use mathlib.Core.Bool.{Bool, _||_}
 use mathlib.Core.List.{List, [], _∷_, reverse}
 use lib.Dec.{eqb, ltb}
+use Rattle.numbers.specs.Limits.{plainWeight}
 use Rattle.contexts.specs.Sitting.{Sample, first, second, Sitting, contextsHeld}
 use Rattle.replay.specs.Room.{Opening, naming}
 use Rattle.replay.specs.Table.{Line, _when_, Outcome, refused, verdictOf}
@@ -23,8 +24,9 @@ roomMade = 256
 abbrev pub sheetNumbers : ℕ
 sheetNumbers = 5632
 
+-- "The program uses weight 4", and reserves all the room
 abbrev pub openingOf : Shape → Opening
-openingOf shape = naming (shape .alphabet) (shape .depth) roomMade
+openingOf shape = naming (shape .alphabet) (shape .depth) plainWeight roomMade
 
 -- the file's own two strings, most recent symbol first
 unfoldable pub stringsIn : List ℕ → Shape → Sample → List ℕ

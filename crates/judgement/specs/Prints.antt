@@ -18,7 +18,7 @@ unfoldable pub linesText : ℕ → List Row → List ℕ
 linesText A [] = []
 linesText A (r ∷ rs) = rowText A (numbersOf r) ++ linesText A rs
 
--- "a line with A, D, n, m, row count, doubled score; then a line for each row"; "A refusal prints `refused` and the number."
+-- "a line with A, D, n, m, row count, score; then a line for each row"; "A refusal prints `refused` and the number."
 unfoldable pub textOf : Outcome FileReport → List ℕ
 textOf (refused n) = refusalText n
 textOf (answered x) =

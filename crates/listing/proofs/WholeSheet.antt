@@ -29,7 +29,7 @@ module _ (k : Desk) (n : ℕ) (l : List ℕ) (w : Weighable k n l) where
   unfolding wanted
   root-rows = ap (sheetFor (sittingIn k (records n l))) (walk-all (k .symbols) (k .depth) (losses (sittingIn k (records n l))))
 
-  pub root-can : (kept sheet : List ℕ) → CanReport k n l kept sheet → (costs : ByKind) → CostsOf (k .symbols) (k .n) (k .m) costs → CanWrite k costs n l kept (length sheet) [] rootSpot 0
+  pub root-can : (kept sheet : List ℕ) → CanReport k n l kept sheet → (costs : ByKind) → CostsOf (k .weight) (k .symbols) (k .n) (k .m) costs → CanWrite k costs n l kept (length sheet) [] rootSpot 0
   unfolding isContext codeOf
   root-can kept sheet q costs priced = record {
     weighable = w;

@@ -54,7 +54,7 @@ rowsFrom k n l s c = sheetFor (sittingIn k (records n l)) (wanted (k .symbols) (
 -- what the writing of the rows at the context s and below it asks, on a sheet of `top` numbers from place `to` on
 pub record CanWrite (k : Desk) (costs : ByKind) (n : ℕ) (l kept : List ℕ) (top : ℕ) (s : List ℕ) (c : Spot) (to : ℕ) : Type 0 where
   pub weighable : Weighable k n l
-  pub priced : CostsOf (k .symbols) (k .n) (k .m) costs
+  pub priced : CostsOf (k .weight) (k .symbols) (k .n) (k .m) costs
   pub decided : Decided k n l kept
   pub context : T (isContext (k .symbols) (k .depth) s)
   pub key-is : c .key ≡ keyOf (k .number) s

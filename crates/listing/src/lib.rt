@@ -29,7 +29,7 @@ pub fn write_rows(
     requires { ⌜ AreLogs (now logs) × CanReport desk n (now numbers) (now kept) (now sheet) ⌝ }
     ensures { λ _. ⌜ Listed desk n (now (numbers .entry)) (now (sheet .entry)) (now (sheet .exit)) ⌝ }
 {
-    let costs = estimate::costs_of(logs, desk.symbols, desk.n, desk.m);
+    let costs = estimate::costs_of(logs, desk.weight, desk.symbols, desk.n, desk.m);
     let way = Way {
         joint: true,
         first: false,

@@ -84,5 +84,5 @@ pub L-top : (n : ℕ) → n ≤ mostCounted → L n ≤ topLog
 L-top n h = L-bound 12 n h
 
 -- a number times its logarithm
-pub weight-top : (n : ℕ) → n ≤ mostCounted → n * L n ≤ mostCounted * topLog
-weight-top n h = mul-le-mul h (L-top n h)
+pub term-top : (n : ℕ) → n ≤ mostCounted → n * L n ≤ mostCounted * topLog
+term-top n h = mul-le-mul h (L-top n h)

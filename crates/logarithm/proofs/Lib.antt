@@ -1,5 +1,5 @@
 pub mod Laws
-pub mod Weights
+pub mod Terms
 pub mod Squaring
 pub mod Twos
 pub mod Filling

@@ -24,6 +24,14 @@ mostCounted = 4096
 abbrev pub topLog : ℕ
 topLog = 12288
 
+-- a weight is from 0 to 16 quarters
+abbrev pub mostWeight : ℕ
+mostWeight = 16
+
+-- four quarters: the plain penalty
+abbrev pub plainWeight : ℕ
+plainWeight = 4
+
 -- desks 0 to 7
 abbrev pub desks : ℕ
 desks = 8

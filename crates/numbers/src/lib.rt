@@ -8,6 +8,9 @@ pub const MOST_SYMBOLS: u32 = 8;
 // D is from 0 to 6.
 pub const DEEPEST: u32 = 6;
 
+// A weight is from 0 to 16 quarters.
+pub const MOST_WEIGHT: u32 = 16;
+
 // A sample has 0 to 2,048 symbols.
 pub const LONGEST: u32 = 2048;
 

@@ -46,7 +46,7 @@ lineOf [] = lineFeed ∷ []
 lineOf (z ∷ []) = signed z ++ (lineFeed ∷ [])
 lineOf (z ∷ y ∷ zs) = signed z ++ (space ∷ lineOf (y ∷ zs))
 
--- "a line with A, D, n, m, row count, doubled score"
+-- "a line with A, D, n, m, row count, score"
 abbrev pub headText : ℕ → ℕ → ℕ → ℕ → ℕ → ℤ → List ℕ
 headText A D n m rows score = lineOf (pos A ∷ pos D ∷ pos n ∷ pos m ∷ pos rows ∷ score ∷ [])
 

@@ -13,7 +13,7 @@ use numbers::ROW_WIDTH;
 use placing::put_byte;
 use placing::put_bytes;
 
-// The numbers of a report's first line: A, D, n, m, the row count and the doubled score.
+// The numbers of a report's first line: A, D, n, m, the row count and the score.
 pub struct Head {
     pub alphabet: u32,
     pub depth: u32,

@@ -118,12 +118,12 @@ fn write_run(part: &mut [u32], desk: u32, recent: &[u32], found: usize, cell: us
     ensures { λ _. ⌜ records (length (now (recent .entry)) + 1 - found) (now (part .exit)) ≡ fresh (length (now (recent .entry)) + 1 - found) found desk (now (recent .entry)) cell ⌝ }
 {
     let mut key = desk * DESK_SPAN;
-    let mut weight = NEWEST;
+    let mut eights = NEWEST;
     let mut seen: usize = 0;
     while seen <= recent.len() {
         write_past(part, found, seen, key, cell);
-        key = longer(key, weight, recent, seen);
-        weight = weight / 8;
+        key = longer(key, eights, recent, seen);
+        eights = eights / 8;
         seen = seen + 1;
     }
 }

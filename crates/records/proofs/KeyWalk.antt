@@ -44,37 +44,37 @@ module _ (d : ℕ) (r : List ℕ) (c : Within r) where
 
 -- ---- the key of the next context
 
--- `key` is that of the context of length j, and `weight` what the next symbol weighs in a key
-pub record Walk (d : ℕ) (r : List ℕ) (key weight j : ℕ) : Type 0 where
+-- `key` is that of the context of length j, and `eights` what the next symbol weighs in a key
+pub record Walk (d : ℕ) (r : List ℕ) (key eights j : ℕ) : Type 0 where
   pub within : j ≤ length r + 1
   pub key-is : j ≤ length r → key ≡ keyOf d (take j r)
-  pub weight-is : j ≤ length r → weight ≡ 8 ^ (deepest - j)
+  pub eights-is : j ≤ length r → eights ≡ 8 ^ (deepest - j)
 
 pub walk-start : (d : ℕ) (r : List ℕ) → Walk d r (d * deskSpan) 262144 0
-walk-start d r = record { within = omega arith; key-is = λ h. omega (arith, digits-nil deepest); weight-is = λ h. refl }
+walk-start d r = record { within = omega arith; key-is = λ h. omega (arith, digits-nil deepest); eights-is = λ h. refl }
 
-module _ (d : ℕ) (r : List ℕ) (small : d < desks) (c : Within r) (key weight j : ℕ) (w : Walk d r key weight j) where
-  next : j < length r → (key + (getD r j 0 * weight + 1) ≡ keyOf d (take (suc j) r)) × (weight / 8 ≡ 8 ^ (deepest - (j + 1)))
+module _ (d : ℕ) (r : List ℕ) (small : d < desks) (c : Within r) (key eights j : ℕ) (w : Walk d r key eights j) where
+  next : j < length r → (key + (getD r j 0 * eights + 1) ≡ keyOf d (take (suc j) r)) × (eights / 8 ≡ 8 ^ (deepest - (j + 1)))
   next h =
       let short = context-length mostSymbols deepest r c in
       let e : deepest - j ≡ suc (5 - j) = omega arith in
       let f : deepest - (j + 1) ≡ 5 - j = omega arith in
-      let g : weight ≡ 8 ^ suc (5 - j) = w .weight-is (omega arith) ∙ ap (λ (z : ℕ). 8 ^ z) e in
+      let g : eights ≡ 8 ^ suc (5 - j) = w .eights-is (omega arith) ∙ ap (λ (z : ℕ). 8 ^ z) e in
       let k = key-step j (5 - j) r h (omega arith) in
       (rw g (omega (arith, w .key-is (omega arith), k)), rw f (omega (arith, g, pow-suc 8 (5 - j))))
 
   -- it fits
-  pub walk-fits : j < length r → key + (getD r j 0 * weight + 1) < 2 ^ 32
+  pub walk-fits : j < length r → key + (getD r j 0 * eights + 1) < 2 ^ 32
   walk-fits h =
       let less = contextKey-lt (take (suc j) r) (context-take mostSymbols deepest (suc j) r c) in
       omega (arith, next h .0, less, small)
 
-  pub walk-on : (key′ : ℕ) → j ≤ length r → key′ ≡ longerKey key weight r j → Walk d r key′ (weight / 8) (j + 1)
+  pub walk-on : (key′ : ℕ) → j ≤ length r → key′ ≡ longerKey key eights r j → Walk d r key′ (eights / 8) (j + 1)
   walk-on key′ on e = record {
     within = omega arith;
     key-is = λ h.
         let inside : j < length r = omega arith in
-        let now : longerKey key weight r j ≡ key + (getD r j 0 * weight + 1) = rw (lt-ltb j (length r) inside) in
+        let now : longerKey key eights r j ≡ key + (getD r j 0 * eights + 1) = rw (lt-ltb j (length r) inside) in
         e ∙ now ∙ next inside .0 ∙ ap (λ (z : ℕ). keyOf d (take z r)) (sym (add-one j));
-    weight-is = λ h. next (omega arith) .1;
+    eights-is = λ h. next (omega arith) .1;
   }

@@ -59,7 +59,7 @@ passed-start d r rs = record {
   others = λ k h. zeros-at 7 k;
 }
 
-module _ (d : ℕ) (r : List ℕ) (n : ℕ) (l : List ℕ) (q : Askable d r n l) (places : List ℕ) (key weight from j : ℕ) (w : Walk d r key weight j)
+module _ (d : ℕ) (r : List ℕ) (n : ℕ) (l : List ℕ) (q : Askable d r n l) (places : List ℕ) (key eights from j : ℕ) (w : Walk d r key eights j)
     (p : Passed d r (records n l) places from j) where
   -- all were found
   pub located-all : length r < j → Seeks d r (records n l) j places

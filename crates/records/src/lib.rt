@@ -68,7 +68,7 @@ pub fn seek(numbers: &[u32], n: usize, desk: u32, recent: &[u32]) -> Sought
 {
     let mut places = [0usize; 7];
     let mut key = desk * DESK_SPAN;
-    let mut weight = NEWEST;
+    let mut eights = NEWEST;
     let mut from: usize = 0;
     let mut found: usize = 0;
     while found <= recent.len() {
@@ -77,8 +77,8 @@ pub fn seek(numbers: &[u32], n: usize, desk: u32, recent: &[u32]) -> Sought
         if !stands(numbers, n, at, key) {
             return Sought { found, places };
         }
-        key = longer(key, weight, recent, found);
-        weight = weight / 8;
+        key = longer(key, eights, recent, found);
+        eights = eights / 8;
         from = at + 1;
         found = found + 1;
     }
@@ -145,13 +145,13 @@ pub fn stands(numbers: &[u32], n: usize, at: usize, key: u32) -> bool
     false
 }
 
-// The key of a context that is longer by the recent symbol at a place: that symbol's weight, and 1 for the length. The same key where none is there.
-pub fn longer(key: u32, weight: u32, recent: &[u32], place: usize) -> u32
-    requires { ⌜ (place < length (now recent) → key + (getD (now recent) place 0 * weight + 1) < 2 ^ 32) ⌝ }
-    ensures { λ r. ⌜ r ≡ longerKey key weight (now (recent .entry)) place ⌝ }
+// The key of a context that is longer by the recent symbol at a place: that symbol at its power of eight, and 1 for the length. The same key where none is there.
+pub fn longer(key: u32, eights: u32, recent: &[u32], place: usize) -> u32
+    requires { ⌜ (place < length (now recent) → key + (getD (now recent) place 0 * eights + 1) < 2 ^ 32) ⌝ }
+    ensures { λ r. ⌜ r ≡ longerKey key eights (now (recent .entry)) place ⌝ }
 {
     if place < recent.len() {
-        return key + (recent[place] * weight + 1);
+        return key + (recent[place] * eights + 1);
     }
     key
 }

@@ -7,7 +7,7 @@ use lib.Dec.{ltb}
 use Rattle.numbers.specs.Sum.{sum}
 use Rattle.replay.specs.Room.{Opening, Room, new, reserved, left}
 use Rattle.replay.specs.Table.{Line, _when_, Outcome, refused, answered, verdictOf}
-use Rattle.replay.specs.Machine.{Rules, outsideLimits, zeroOrAboveK, aboveRoomLeft, put, settle, opening, asking, closing, Call, atDesk, roomQuestion, openingTable, ownLines, askingTable, closingTable, tableAt, tableOf, answerAt, answerOf, verdict, moved, shift, move}
+use Rattle.replay.specs.Machine.{Rules, outsideLimits, weightOutside, zeroOrAboveK, aboveRoomLeft, put, settle, opening, asking, closing, Call, atDesk, roomQuestion, openingTable, ownLines, askingTable, closingTable, tableAt, tableOf, answerAt, answerOf, verdict, moved, shift, move}
 use Rattle.replay.specs.Serial.{outcomes, calls, answers, struck, played, joined, entered, sittings, oldestFirst, serial}
 use Rattle.replay.specs.Real.{Contracts, Made, RunsReal}
 use Rattle.replay.proofs.RealRuns.{real-answers, real-room}
@@ -36,11 +36,11 @@ toyNext o s total? = s
 abbrev toy : Rules
 toy = record { State = ℕ; Ask = Say; Answer = Said; done = ok; room = room; fresh = λ o. 0; lines = toyLines; answer = toyAnswer; next = toyNext }
 
-abbrev opensAs : ℕ → ℕ → ℕ → ℕ → Call toy
-opensAs d A D r = atDesk d (opening (record { symbols = A; depth = D; reserve = r }))
+abbrev opensAs : ℕ → ℕ → ℕ → ℕ → ℕ → Call toy
+opensAs d A D W r = atDesk d (opening (record { symbols = A; depth = D; weight = W; reserve = r }))
 
 abbrev opensFor : ℕ → ℕ → Call toy
-opensFor d r = opensAs d 2 1 r
+opensFor d r = opensAs d 2 1 4 r
 
 abbrev asksFor : ℕ → Say → Call toy
 asksFor d q = atDesk d (asking q)
@@ -59,7 +59,7 @@ mixedOutcomes =
     ∷ answered ok ∷ answered (total 3) ∷ refused 4 ∷ answered (total 0) ∷ answered ok ∷ answered ok ∷ refused 2 ∷ refused 6 ∷ answered (room 0) ∷ []
 
 mixed-outcomes : outcomes toy (new 10) mixed ≡ mixedOutcomes
-unfolding outcomes verdict verdictOf tableOf tableAt openingTable askingTable closingTable ownLines outsideLimits zeroOrAboveK aboveRoomLeft answerOf answerAt move settle shift put moved left reserved sum
+unfolding outcomes verdict verdictOf tableOf tableAt openingTable askingTable closingTable ownLines outsideLimits weightOutside zeroOrAboveK aboveRoomLeft answerOf answerAt move settle shift put moved left reserved sum
 mixed-outcomes = refl
 
 -- desk 0's sitting, then desk 1's first, then desk 2's, then desk 1's second
@@ -71,13 +71,13 @@ mixed-serial : calls toy (serial toy (struck toy mixed mixedOutcomes)) ≡
 unfolding calls serial struck sittings entered joined oldestFirst played
 mixed-serial = refl
 
--- both sides of each limit of an opening: desk, A, D, r against K, r against the room left
+-- both sides of each limit of an opening: desk, A, D, weight, r against K, r against the room left
 limits : outcomes toy (new 10)
-    (opensAs 8 1 7 11 ∷ opensAs 7 1 7 11 ∷ opensAs 7 9 6 11 ∷ opensAs 7 2 7 11 ∷ opensAs 7 2 6 11 ∷ opensAs 7 2 6 0 ∷ opensAs 7 2 6 10 ∷ opensAs 7 1 7 11 ∷ closes 7
-    ∷ opensAs 0 8 0 4 ∷ opensAs 1 8 0 7 ∷ opensAs 1 8 0 6 ∷ []) ≡
-    refused 2 ∷ refused 5 ∷ refused 5 ∷ refused 5 ∷ refused 6 ∷ refused 6 ∷ answered ok ∷ refused 3 ∷ answered ok
+    (opensAs 8 1 7 17 11 ∷ opensAs 7 1 7 17 11 ∷ opensAs 7 9 6 17 11 ∷ opensAs 7 2 7 17 11 ∷ opensAs 7 2 6 17 11 ∷ opensAs 7 2 6 16 11 ∷ opensAs 7 2 6 16 0 ∷ opensAs 7 2 6 16 10 ∷ opensAs 7 1 7 17 11 ∷ closes 7
+    ∷ opensAs 0 8 0 0 4 ∷ opensAs 1 8 0 0 7 ∷ opensAs 1 8 0 0 6 ∷ []) ≡
+    refused 2 ∷ refused 5 ∷ refused 5 ∷ refused 5 ∷ refused 20 ∷ refused 6 ∷ refused 6 ∷ answered ok ∷ refused 3 ∷ answered ok
     ∷ answered ok ∷ refused 7 ∷ answered ok ∷ []
-unfolding outcomes verdict verdictOf tableOf tableAt openingTable closingTable outsideLimits zeroOrAboveK aboveRoomLeft answerOf answerAt move settle shift put moved left reserved sum
+unfolding outcomes verdict verdictOf tableOf tableAt openingTable closingTable outsideLimits weightOutside zeroOrAboveK aboveRoomLeft answerOf answerAt move settle shift put moved left reserved sum
 limits = refl
 
 -- a toy store: a room, and numbers that stand for nothing

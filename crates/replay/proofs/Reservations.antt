@@ -33,7 +33,7 @@ module _ (R : Rules) where
   opening-fits : (S : Spare) (d : ℕ) (D : Desk (R .State)) (o : Opening) → NoneApplies (tableAt R S d D (opening o))
       → (reserved D ≡ 0) × (reserved (moved R D (opening o)) ≤ S .free)
   unfolding tableAt openingTable aboveRoomLeft reserved moved
-  opening-fits S d D o h = rw (shut D (h .1 .0)) (refl, ltb-false _ _ (h .1 .1 .1 .1 .0))
+  opening-fits S d D o h = rw (shut D (h .1 .0)) (refl, ltb-false _ _ (h .1 .1 .1 .1 .1 .0))
 
   -- the reservations are within the room's size
   abbrev Within : Room (R .State) → Type 0

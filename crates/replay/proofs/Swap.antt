@@ -41,7 +41,7 @@ module _ (R : Rules) where
   table-wider : (S W : Spare) (d : ℕ) (D : Desk (R .State)) (a : Act R) → Wider S W → NoneApplies (tableAt R S d D a) → NoneApplies (tableAt R W d D a)
   unfolding tableAt openingTable zeroOrAboveK
   table-wider S W d D (opening o) w h =
-      (h .0, (h .1 .0, (h .1 .1 .0, (rw (← (w .equal)) (h .1 .1 .1 .0), (still-fits S W o w (h .1 .1 .1 .1 .0), tt)))))
+      (h .0, (h .1 .0, (h .1 .1 .0, (h .1 .1 .1 .0, (rw (← (w .equal)) (h .1 .1 .1 .1 .0), (still-fits S W o w (h .1 .1 .1 .1 .1 .0), tt))))))
   table-wider S W d D (asking q) w h = h
   table-wider S W d D closing w h = h
 

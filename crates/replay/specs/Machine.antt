@@ -5,7 +5,7 @@ use Prim.Native.Nat.{ℕ}
 use mathlib.Core.Bool.{Bool, true, false, cond, not, _||_}
 use mathlib.Core.List.{List, [], _∷_}
 use lib.Dec.{leb, ltb, eqb}
-use Rattle.numbers.specs.Limits.{fewestSymbols, mostSymbols, deepest, desks}
+use Rattle.numbers.specs.Limits.{fewestSymbols, mostSymbols, deepest, mostWeight, desks}
 use Rattle.replay.specs.Room.{Opening, Desk, closed, opened, Room, left}
 use Rattle.replay.specs.Table.{Line, _when_, Outcome, refused, answered, verdictOf}
 
@@ -61,6 +61,10 @@ isOpened (opened o s) = true
 unfoldable pub outsideLimits : Opening → Bool
 outsideLimits o = ltb (o .symbols) fewestSymbols || ltb mostSymbols (o .symbols) || ltb deepest (o .depth)
 
+-- "weight outside its limits"
+unfoldable pub weightOutside : Opening → Bool
+weightOutside o = ltb mostWeight (o .weight)
+
 -- "reservation 0 or above K"
 unfoldable pub zeroOrAboveK : Spare → Opening → Bool
 zeroOrAboveK S o = eqb (o .reserve) 0 || ltb (S .size) (o .reserve)
@@ -75,6 +79,7 @@ openingTable S d D o =
     2 when noSuchDesk d
     ∷ 3 when isOpened D
     ∷ 5 when outsideLimits o
+    ∷ 20 when weightOutside o
     ∷ 6 when zeroOrAboveK S o
     ∷ 7 when aboveRoomLeft S o
     ∷ []

@@ -8,14 +8,15 @@ use Rattle.numbers.specs.Sum.{sum}
 abbrev pub Making : Type 0
 Making = ℕ
 
--- "Opening a desk names A, D and a reservation r."
+-- "Opening a desk names A, D and a reservation r", and a weight on the penalty
 pub record Opening : Type 0 where
   pub symbols : ℕ
   pub depth : ℕ
+  pub weight : ℕ
   pub reserve : ℕ
 
-abbrev pub naming : ℕ → ℕ → ℕ → Opening
-naming A D r = record { symbols = A; depth = D; reserve = r }
+abbrev pub naming : ℕ → ℕ → ℕ → ℕ → Opening
+naming A D W r = record { symbols = A; depth = D; weight = W; reserve = r }
 
 pub data Desk (State : Type 0) : Type 0 where
   closed : Desk State

@@ -29,7 +29,7 @@ use Rattle.records.specs.Records.{records, lookup}
 use Rattle.records.specs.Held.{held, Standing}
 use Rattle.records.proofs.Finding.{held-place, lookup-place, lookup-absent}
 use Rattle.records.proofs.Counting.{total-blank}
-use Rattle.store.specs.Layout.{headerSize, used, symbolsAt, depthAt, sizeAt, recordsIn, totalOf}
+use Rattle.store.specs.Layout.{headerSize, used, symbolsAt, depthAt, weightAt, sizeAt, recordsIn, totalOf}
 use Rattle.store.specs.Sound.{soundb}
 use Rattle.store.specs.Plain.{Open, Sound, totalAt}
 use Rattle.store.specs.Meaning.{openingAt, progressAt, sittingAt, meaning, SittingFits}
@@ -66,7 +66,7 @@ module _ (s : List ℕ) (d : ℕ) (sound : soundb s ≡ true) (at-desk : Open s 
       each second = refl
 
       with-sizes : (Sample → ℕ) → Sitting
-      with-sizes n = record { symbols = symbolsAt s d; depth = depthAt s d; size = n; count = progressAt s d .count }
+      with-sizes n = record { symbols = symbolsAt s d; depth = depthAt s d; weight = weightAt s d; size = n; count = progressAt s d .count }
 
   pub records-stand : Standing (used s) (drop headerSize s)
   unfolding recordsIn
@@ -117,6 +117,7 @@ module _ (s : List ℕ) (d : ℕ) (sound : soundb s ≡ true) (at-desk : Open s 
     some = let a = fits .alphabet-fewest in omega arith;
     few = fits .alphabet-most;
     shallow = fits .depth-most;
+    light = fits .weight-most;
     sized = let a = fits .sizes first in let b = fits .sizes second in omega arith;
     contexts = of-context;
     parents = parent;
@@ -139,7 +140,7 @@ module _ (s : List ℕ) (d : ℕ) (sound : soundb s ≡ true) (at-desk : Open s 
       x = sittingIn (deskIn s d) (records (used s) (drop headerSize s))
 
       costs : ByKind
-      costs = record { shared = cost (symbolsAt s d) (sizeAt s d first + sizeAt s d second); first = cost (symbolsAt s d) (sizeAt s d first); second = cost (symbolsAt s d) (sizeAt s d second) }
+      costs = record { shared = cost (weightAt s d) (symbolsAt s d) (sizeAt s d first + sizeAt s d second); first = cost (weightAt s d) (symbolsAt s d) (sizeAt s d first); second = cost (weightAt s d) (symbolsAt s d) (sizeAt s d second) }
 
-      priced : CostsOf (symbolsAt s d) (sizeAt s d first) (sizeAt s d second) costs
+      priced : CostsOf (weightAt s d) (symbolsAt s d) (sizeAt s d first) (sizeAt s d second) costs
       priced = record { shared = refl; first = refl; second = refl }

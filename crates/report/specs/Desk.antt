@@ -7,7 +7,7 @@ use lib.ListN.{length, drop}
 use Rattle.contexts.specs.Sitting.{first, second}
 use Rattle.estimate.specs.Recursion.{losses, joint}
 use Rattle.rows.specs.Rows.{reportOf}
-use Rattle.store.specs.Layout.{headerSize, used, symbolsAt, depthAt, sizeAt}
+use Rattle.store.specs.Layout.{headerSize, used, symbolsAt, depthAt, weightAt, sizeAt}
 use Rattle.store.specs.Sound.{soundb}
 use Rattle.store.specs.Plain.{Open}
 use Rattle.store.specs.Meaning.{sittingAt}
@@ -15,9 +15,9 @@ use Rattle.weighing.specs.Weighs.{Decided}
 use Rattle.weighing.specs.declared.Desk.{Desk}
 use Rattle.weighing.specs.declared.Least.{Least}
 
--- its number, A, D and the samples' lengths
+-- its number, A, D, the weight and the samples' lengths
 abbrev pub deskIn : List ℕ → ℕ → Desk
-deskIn s d = record { number = d; symbols = symbolsAt s d; depth = depthAt s d; n = sizeAt s d first; m = sizeAt s d second }
+deskIn s d = record { number = d; symbols = symbolsAt s d; depth = depthAt s d; weight = weightAt s d; n = sizeAt s d first; m = sizeAt s d second }
 
 -- the numbers are those of a sound store with that desk open, and both samples have more symbols than D
 pub record CanReportOn (s : List ℕ) (k : Desk) : Type 0 where

@@ -11,6 +11,7 @@ use store::layout::SIZE_FIRST;
 use store::layout::SIZE_SECOND;
 use store::layout::SYMBOLS;
 use store::layout::USED;
+use store::layout::WEIGHT;
 use store::layout::field_at;
 use weighing::Desk;
 use weighing::Least;
@@ -120,6 +121,7 @@ fn desk_in(store: &[u32], desk: u32) -> Desk
         number: desk,
         symbols: field_at(store, d, SYMBOLS),
         depth: field_at(store, d, DEPTH),
+        weight: field_at(store, d, WEIGHT),
         n: field_at(store, d, SIZE_FIRST),
         m: field_at(store, d, SIZE_SECOND),
     }

@@ -23,7 +23,7 @@ use Rattle.rules.specs.Strings.{sittingFor, StandsFor}
 
 module _ (o : Opening) (w : Sample → List ℕ) (p : Progress) (S : StandsFor o w p) where
   abbrev x : Sitting
-  x = sat (o .symbols) (o .depth) p
+  x = sat (o .symbols) (o .depth) (o .weight) p
 
   abbrev y : Sitting
   y = sittingFor o w
@@ -55,8 +55,8 @@ module _ (o : Opening) (w : Sample → List ℕ) (p : Progress) (S : StandsFor o
   own-report =
       ap₂ (λ (rs : List Row) (n : ℤ). record { rows = rs; score = n })
       (rows-same (members (o .symbols) (o .depth) (estimateOf x)) (λ r m. of-members (o .symbols) (o .depth) (estimateOf x) m .0)
-      ∙ ap (rowsOf y) (same-estimate (o .symbols) (o .depth) (p .size) (y .size) (p .count) (y .count) (S .sizes) (S .counts)))
-      (same-score (o .symbols) (o .depth) (p .size) (y .size) (p .count) (y .count) (S .sizes) (S .counts))
+      ∙ ap (rowsOf y) (same-estimate (o .symbols) (o .depth) (o .weight) (p .size) (y .size) (p .count) (y .count) (S .sizes) (S .counts)))
+      (same-score (o .symbols) (o .depth) (o .weight) (p .size) (y .size) (p .count) (y .count) (S .sizes) (S .counts))
 
   -- THEOREM. So is the chart of each context
   pub own-chart : (s : List ℕ) (a : ℕ) → T (isContext (o .symbols) (o .depth) s) → chartOf x s a ≡ chartOf y s a

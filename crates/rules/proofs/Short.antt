@@ -92,7 +92,7 @@ none-at-depth-0 o n e = is-false (tooShort o n) (λ t. let h = is-short o n (is-
 pub never-at-depth-0 : NeverAtDepth0
 unfolding verdict verdictOf tableOf tableAt askingTable ownLines linesOf
 never-at-depth-0 ρ d sheet place o p at-desk e v =
-    go (answerOf rules ρ (atDesk d (asking (reporting sheet place)))) (noSuchDesk d) (someEmpty p) (doesNotFit sheet place (sat (o .symbols) (o .depth) p)) (rw (at-desk, none-at-depth-0 o (p .size first) e, none-at-depth-0 o (p .size second) e) at v)
+    go (answerOf rules ρ (atDesk d (asking (reporting sheet place)))) (noSuchDesk d) (someEmpty p) (doesNotFit sheet place (sat (o .symbols) (o .depth) (o .weight) p)) (rw (at-desk, none-at-depth-0 o (p .size first) e, none-at-depth-0 o (p .size second) e) at v)
   where
     go : (x : Answer) (a b c : Bool) → cond a (refused 2) (cond b (refused 11) (cond c (refused 12) (answered x))) ≡ refused 24 → ⊥
     go x true b c q = let z = number-same q in omega (arith, z)

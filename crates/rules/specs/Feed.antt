@@ -37,7 +37,7 @@ isFull p i = leb longest (p .size (sampleOf i))
 
 -- "the feed would take the sitting past its reservation"
 abbrev pub pastReservation : Opening → Progress → ℕ → ℕ → Bool
-pastReservation o p i a = ltb (o .reserve) (contextsHeld (sat (o .symbols) (o .depth) (afterFeed o (sampleOf i) a p)))
+pastReservation o p i a = ltb (o .reserve) (contextsHeld (sat (o .symbols) (o .depth) (o .weight) (afterFeed o (sampleOf i) a p)))
 
 -- the refusals of a feed at an open desk
 abbrev pub feedLines : Opening → Progress → ℕ → ℕ → List Line

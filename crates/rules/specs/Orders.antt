@@ -15,7 +15,8 @@ use Rattle.rules.specs.Rules.{feed, reporting, charting, rules}
 
 -- of a call at a store; 1 goes before them all
 unfoldable pub orderOf : Call rules → List ℕ
-orderOf (atDesk d (opening o)) = 2 ∷ 3 ∷ 5 ∷ 6 ∷ 7 ∷ []
+-- E5: "20, after 5 and before 6"
+orderOf (atDesk d (opening o)) = 2 ∷ 3 ∷ 5 ∷ 20 ∷ 6 ∷ 7 ∷ []
 orderOf (atDesk d (asking (feed i a))) = 2 ∷ 4 ∷ 8 ∷ 9 ∷ 10 ∷ []
 -- E8: "24, after 11 and before 12"
 orderOf (atDesk d (asking (reporting sheet place))) = 2 ∷ 4 ∷ 11 ∷ 24 ∷ 12 ∷ []

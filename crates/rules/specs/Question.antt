@@ -24,4 +24,4 @@ chartLines o len code a = 8 when notAsked o len code a ∷ []
 
 -- what it answers
 abbrev pub charted : Opening → Progress → ℕ → ℕ → ℕ → Chart
-charted o p len code a = chartOf (sat (o .symbols) (o .depth) p) (decoded len code) a
+charted o p len code a = chartOf (sat (o .symbols) (o .depth) (o .weight) p) (decoded len code) a

@@ -13,7 +13,7 @@ use Rattle.rows.specs.Rows.{Row, reportOf}
 use Rattle.replay.specs.Room.{Opening}
 use Rattle.replay.specs.Table.{Line, _when_}
 
--- "The answer is the row count and the doubled score", and the rows are what was written
+-- "The answer is the row count and the score", and the rows are what was written
 pub record Reported : Type 0 where
   pub rows : List Row
   pub score : ℤ
@@ -43,5 +43,5 @@ abbrev pub reportLines : Opening → Progress → ℕ → ℕ → List Line
 reportLines o p sheet place =
     11 when someEmpty p
     ∷ 24 when someShort o p
-    ∷ 12 when doesNotFit sheet place (sat (o .symbols) (o .depth) p)
+    ∷ 12 when doesNotFit sheet place (sat (o .symbols) (o .depth) (o .weight) p)
     ∷ []

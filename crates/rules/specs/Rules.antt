@@ -35,7 +35,7 @@ linesOf o p (charting len code a) = chartLines o len code a
 -- what an accepted ask answers, and the sitting after it
 unfoldable pub askAnswer : Opening → Progress → Ask → Answer
 askAnswer o p (feed i a) = done
-askAnswer o p (reporting sheet place) = reported (report (sat (o .symbols) (o .depth) p))
+askAnswer o p (reporting sheet place) = reported (report (sat (o .symbols) (o .depth) (o .weight) p))
 askAnswer o p (charting len code a) = point (charted o p len code a)
 
 unfoldable pub nextOf : Opening → Progress → Ask → Progress

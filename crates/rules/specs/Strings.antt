@@ -30,7 +30,7 @@ stringsOf qs = foldl longer (λ i. []) qs
 
 -- the sitting of two strings, as a desk opened with o holds it
 abbrev pub sittingFor : Opening → (Sample → List ℕ) → Sitting
-sittingFor o w = sittingOf (o .symbols) (o .depth) (countedFrom o) w
+sittingFor o w = sittingOf (o .symbols) (o .depth) (o .weight) (countedFrom o) w
 
 -- what a sitting has so far is what two strings over its alphabet make it
 pub record StandsFor (o : Opening) (w : Sample → List ℕ) (p : Progress) : Type 0 where

@@ -24,18 +24,19 @@ pub extern "C" fn sobumikeyo_make(store: &mut [u32], room: u32) -> u32
     making_code(store::make(store, room))
 }
 
-// Opens a desk for an alphabet and a depth, and reserves it room.
+// Opens a desk for an alphabet, a depth and a weight in quarters, and reserves it room.
 #[no_mangle]
 pub extern "C" fn sobumikeyo_open(
     store: &mut [u32],
     desk: u32,
     alphabet: u32,
     depth: u32,
+    weight: u32,
     reservation: u32,
 ) -> u32
-    ensures { λ r. ⌜ MoveTold (now (store .entry)) (atDesk desk (opening (naming alphabet depth reservation))) r (now (store .exit)) ⌝ }
+    ensures { λ r. ⌜ MoveTold (now (store .entry)) (atDesk desk (opening (naming alphabet depth weight reservation))) r (now (store .exit)) ⌝ }
 {
-    code_of(desks::open(store, desk, alphabet, depth, reservation))
+    code_of(desks::open(store, desk, alphabet, depth, weight, reservation))
 }
 
 // One more symbol of a sample at a desk.

@@ -6,7 +6,7 @@ ghost use Rattle.numbers.specs.Limits.{mostSymbols, desks, mostRoom};
 ghost use Rattle.numbers.specs.Sum.{sum};
 ghost use Rattle.numbers.specs.Every.{every, all};
 ghost use Rattle.records.specs.Records.{width, records, key};
-ghost use Rattle.contexts.specs.Keys.{deskOf, deskSpan, weight};
+ghost use Rattle.contexts.specs.Keys.{deskOf, deskSpan, eights};
 ghost use Rattle.contexts.specs.Sitting.{sumOf};
 ghost use Rattle.store.specs.Layout.{headerSize};
 ghost use Rattle.store.specs.Sound.{soundb, ofAlphabet, frameOk, limitsOk, slotsOk, deskTest, reservedAt, quietFrom, countsOk, tableOk};
@@ -17,6 +17,7 @@ use numbers::FEWEST_SYMBOLS;
 use numbers::LONGEST;
 use numbers::MOST_ROOM;
 use numbers::MOST_SYMBOLS;
+use numbers::MOST_WEIGHT;
 use records::COUNTS;
 use records::DESK_SPAN;
 use records::WIDTH;
@@ -36,6 +37,7 @@ use store::layout::SIZE_SECOND;
 use store::layout::SLOTS;
 use store::layout::SYMBOLS;
 use store::layout::USED;
+use store::layout::WEIGHT;
 use store::layout::field_at;
 
 // Whether a lent store stands for sittings.
@@ -162,7 +164,7 @@ fn key_fits(store: &[u32], key: u32) -> bool
 fn oldest_ok(a: u32, key: u32) -> bool
     ensures { λ r. ⌜ r ≡ oldestOk a key ⌝ }
 {
-    let w = weight_of((key % 8) as usize);
+    let w = eights_of((key % 8) as usize);
     key % DESK_SPAN / w % 8 < a
 }
 
@@ -171,14 +173,14 @@ fn ends_ok(key: u32) -> bool
     ensures { λ r. ⌜ r ≡ endsOk key ⌝ }
 {
     let len = key % 8;
-    let w = weight_of(len as usize);
+    let w = eights_of(len as usize);
     key % w == len
 }
 
 // What the oldest of `len` symbols weighs in a key: by a shift, which is faster than a table.
-fn weight_of(len: usize) -> u32
+fn eights_of(len: usize) -> u32
     requires { ⌜ len < 8 ⌝ }
-    ensures { λ r. ⌜ (r ≡ weight len) × (0 < r) ⌝ }
+    ensures { λ r. ⌜ (r ≡ eights len) × (0 < r) ⌝ }
 {
     1u32 << (21 - 3 * len)
 }
@@ -234,7 +236,7 @@ fn up_mark(key: u32) -> u32
     ensures { λ r. ⌜ r ≡ upMark key ⌝ }
 {
     let len = key % 8;
-    let w = weight_of(len as usize);
+    let w = eights_of(len as usize);
     key / w / 8 * 8 * w + len
 }
 
@@ -291,7 +293,7 @@ fn desk_ok(store: &[u32], desk: usize, many: u32) -> bool
     true
 }
 
-// Whether A, D, the reservation and the lengths of a desk are within their limits.
+// Whether A, D, the weight, the reservation and the lengths of a desk are within their limits.
 fn limits_ok(store: &[u32], desk: usize) -> bool
     requires { ⌜ (headerSize ≤ length (now store)) × (desk < desks) ⌝ }
     ensures { λ r. ⌜ r ≡ limitsOk (now (store .entry)) desk ⌝ }
@@ -304,6 +306,9 @@ fn limits_ok(store: &[u32], desk: usize) -> bool
         return false;
     }
     if DEEPEST < field_at(store, desk, DEPTH) {
+        return false;
+    }
+    if MOST_WEIGHT < field_at(store, desk, WEIGHT) {
         return false;
     }
     if field_at(store, desk, RESERVE) < 1 {

@@ -51,6 +51,7 @@ module _ (s : List ℕ) (h : Sound s) where
           fewest = h .alphabet-fewest d o;
           most = h .alphabet-most d o;
           depth = h .depth d o;
+          weight = h .weight d o;
           some = h .reserve-some d o;
           sizes = h .lengths d o;
           within = h .reserved-held d o;

@@ -11,7 +11,7 @@ use Rattle.numbers.proofs.Tests.{bool-ext, both, left, right}
 use Rattle.numbers.proofs.Orders.{less, same, more, order, eq→eqb}
 use Rattle.numbers.proofs.Every.{all-at, all-of}
 use Rattle.contexts.specs.Context.{isContext, parentOf}
-use Rattle.contexts.specs.Keys.{keyOf, deskOf, contextOf, lenOf, weight}
+use Rattle.contexts.specs.Keys.{keyOf, deskOf, contextOf, lenOf, eights}
 use Rattle.contexts.proofs.Strings.{context-length}
 use Rattle.contexts.proofs.Oldest.{oldest-below}
 use Rattle.contexts.proofs.Digits.{ends-short, Ends, contextOf-within, key-ends, key-length}
@@ -45,14 +45,14 @@ key-stands s k t =
 
 -- the oldest symbol is one of the context's
 oldest-fits : (A D k : ℕ) → 1 ≤ A → T (isContext A D (contextOf k)) → lenOf k ≤ deepest → Ends k → T (oldestOk A k)
-unfolding oldestOk weight
+unfolding oldestOk eights
 oldest-fits A D k some c short ends = elim (order 0 (lenOf k)) [
   | less h ↦
       let a = above k h short ends in
       let low = oldest-below A D (parentOf (contextOf k)) (a .symbol) (subst (λ (x : List ℕ). T (isContext A D x)) (a .is) c) in
       lt→ltb _ A (subst (λ (x : ℕ). x < A) (sym (a .reads)) low)
   | same q ↦
-      let e : k % weight 0 ≡ 0 = subst (λ (l : ℕ). k % weight l ≡ l) (sym q) ends in
+      let e : k % eights 0 ≡ 0 = subst (λ (l : ℕ). k % eights l ≡ l) (sym q) ends in
       lt→ltb _ A (rw (sym q) (omega arith))
   | more h ↦ absurd (omega arith)
 ]
@@ -65,13 +65,13 @@ key-fits s k some t =
     let c = contextOf k in
     let within = contextOf-within k in
     let len : lenOf k ≡ length c = subst (λ (m : ℕ). lenOf m ≡ length c) (g .back) (key-length d c within) in
-    let ends : Ends k = subst (λ (l : ℕ). k % weight l ≡ l) (sym len) (subst (λ (m : ℕ). m % weight (length c) ≡ length c) (g .back) (key-ends d c within)) in
+    let ends : Ends k = subst (λ (l : ℕ). k % eights l ≡ l) (sym len) (subst (λ (m : ℕ). m % eights (length c) ≡ length c) (g .back) (key-ends d c within)) in
     let short = context-length (symbolsAt s d) (depthAt s d) c (g .context) in
     both (ltb d desks) _ (lt→ltb d desks (g .desk))
     (both (isOpen s d) _ (g .opened)
     (both (leb (lenOf k) (depthAt s d)) _ (le→leb (lenOf k) (depthAt s d) (omega arith))
     (both (oldestOk (symbolsAt s d) k) _ (oldest-fits (symbolsAt s d) (depthAt s d) k (some d (g .desk) (g .opened)) (g .context) (ends-short k ends) ends)
-    (eq→eqb (k % weight (lenOf k)) (lenOf k) ends))))
+    (eq→eqb (k % eights (lenOf k)) (lenOf k) ends))))
 
 record-fit : (s : List ℕ) (rs : List (List ℕ)) → ((d : ℕ) → d < desks → T (isOpen s d) → 1 ≤ symbolsAt s d) → (r : List ℕ) → T (recordOk s rs r) → T (fitOk s rs r)
 unfolding fitOk ownOk recordOk

@@ -59,6 +59,7 @@ module _ (s : List ℕ) (h : Passed s) (d : ℕ) (o : Open s d) where
     alphabet-fewest = desk-passed s h d o .fewest;
     alphabet-most = desk-passed s h d o .most;
     depth-most = desk-passed s h d o .depth;
+    weight-most = desk-passed s h d o .weight;
     reserve-some = desk-passed s h d o .some;
     sizes = desk-passed s h d o .sizes;
     recent-length = recent-long;

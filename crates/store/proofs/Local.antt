@@ -20,7 +20,7 @@ use Rattle.records.specs.Records.{lookup}
 use Rattle.records.specs.Held.{countAt, keep, ofDesk}
 use Rattle.records.proofs.Keeping.{lookup-local}
 use Rattle.replay.specs.Room.{opened}
-use Rattle.store.specs.Layout.{headerSize, deskStart, deskNumbers, field, recentField, symbolsAt, depthAt, sizeAt, slotsAt, recordsIn}
+use Rattle.store.specs.Layout.{headerSize, deskStart, deskNumbers, field, sizeField, recentField, symbolsAt, depthAt, sizeAt, slotsAt, recordsIn}
 use Rattle.store.specs.Sound.{soundb}
 use Rattle.store.specs.Plain.{Open}
 use Rattle.store.specs.Meaning.{openingAt, progressAt, deskAt}
@@ -37,16 +37,16 @@ pub record SameDesk (s t : List ℕ) (d : ℕ) : Type 0 where
 
 module _ (s t : List ℕ) (d : ℕ) (e : SameDesk s t d) where
   pub same-size : (i : Sample) → sizeAt s d i ≡ sizeAt t d i
-  same-size first = e .fields 4 (omega arith)
-  same-size second = e .fields 5 (omega arith)
+  same-size first = e .fields (sizeField first) (omega arith)
+  same-size second = e .fields (sizeField second) (omega arith)
 
   same-slot : (i : Sample) (j : ℕ) → j < deepest → getD s (deskStart d + recentField i + j) 0 ≡ getD t (deskStart d + recentField i + j) 0
   same-slot first j l =
-      let q : deskStart d + 6 + j ≡ deskStart d + (6 + j) = omega arith in
-      rw q (e .fields (6 + j) (omega arith))
+      let q : deskStart d + recentField first + j ≡ deskStart d + (recentField first + j) = omega arith in
+      rw q (e .fields (recentField first + j) (omega arith))
   same-slot second j l =
-      let q : deskStart d + 12 + j ≡ deskStart d + (12 + j) = omega arith in
-      rw q (e .fields (12 + j) (omega arith))
+      let q : deskStart d + recentField second + j ≡ deskStart d + (recentField second + j) = omega arith in
+      rw q (e .fields (recentField second + j) (omega arith))
 
   pub same-slots : d < desks → (i : Sample) → slotsAt s d i ≡ slotsAt t d i
   same-slots l i =
@@ -72,8 +72,9 @@ module _ (s t : List ℕ) (d : ℕ) (e : SameDesk s t d) where
   same-opening =
       let p = e .fields 1 (omega arith) in
       let q = e .fields 2 (omega arith) in
-      let r = e .fields 3 (omega arith) in
-      λ j. record { symbols = p j; depth = q j; reserve = r j }
+      let w = e .fields 3 (omega arith) in
+      let r = e .fields 4 (omega arith) in
+      λ j. record { symbols = p j; depth = q j; weight = w j; reserve = r j }
 
   same-progress : d < desks → symbolsAt s d ≤ mostSymbols → depthAt s d ≤ deepest → progressAt s d ≡ progressAt t d
   same-progress l most deep =

@@ -11,7 +11,7 @@ use lib.ListN.{length, getD, length-set}
 use lib.Seq.{getD-set-same, getD-set-other}
 use Rattle.numbers.proofs.Lists.{zeros-at}
 use Rattle.contexts.specs.Context.{parentOf}
-use Rattle.contexts.specs.Keys.{keyOf, deskOf, contextOf, lenOf, weight}
+use Rattle.contexts.specs.Keys.{keyOf, deskOf, contextOf, lenOf, eights}
 use Rattle.contexts.specs.Sitting.{Sample}
 use Rattle.contexts.proofs.Digits.{ends-short, Ends, contextOf-length, key-back}
 use Rattle.records.specs.Records.{key, keys, rises, lookup, blank}
@@ -32,7 +32,7 @@ pub record Kept (rs : List (List ℕ)) (i : Sample) (lo : ℕ) (p : List ℕ) : 
   pub long : length p ≡ 9
   pub none : getD p 0 0 ≡ 0
   pub counted : (l k : ℕ) → getD p (l + 1) 0 ≡ k + 1 → 0 < totalOf i (lookup k rs)
-  pub last : (k : ℕ) → k < lo → Ends k → lo + lenOf k ≤ k + weight (lenOf k) → 0 < totalOf i (lookup k rs) → getD p (lenOf k + 1) 0 ≡ k + 1
+  pub last : (k : ℕ) → k < lo → Ends k → lo + lenOf k ≤ k + eights (lenOf k) → 0 < totalOf i (lookup k rs) → getD p (lenOf k + 1) 0 ≡ k + 1
 
 pub kept-start : (rs : List (List ℕ)) (i : Sample) → Kept rs i 0 start
 kept-start rs i = record {
@@ -132,7 +132,7 @@ module _ (rs : List (List ℕ)) (i : Sample) (lo : ℕ) (p : List ℕ) (r : List
           let other = eqb-false l (lenOf (key r)) g in
           kept .counted l k (sym (getD-set-other p (lenOf (key r) + 1) (l + 1) (seenMark (key r) (totalOf i r)) 0 (λ q. other (omega arith))) ∙ e)
 
-  last-next : (k : ℕ) → k < key r + 1 → Ends k → key r + 1 + lenOf k ≤ k + weight (lenOf k) → 0 < totalOf i (lookup k rs) → getD (marksAfter i r p) (lenOf k + 1) 0 ≡ k + 1
+  last-next : (k : ℕ) → k < key r + 1 → Ends k → key r + 1 + lenOf k ≤ k + eights (lenOf k) → 0 < totalOf i (lookup k rs) → getD (marksAfter i r p) (lenOf k + 1) 0 ≡ k + 1
   unfolding seenMark
   last-next k h e n seen = go (eqb k (key r)) refl (eqb (lenOf k) (lenOf (key r))) refl
     where
@@ -145,7 +145,7 @@ module _ (rs : List (List ℕ)) (i : Sample) (lo : ℕ) (p : List ℕ) (r : List
           let other = eqb-false k (key r) g in
           let same : lenOf k ≡ lenOf (key r) = eqb-true (lenOf k) (lenOf (key r)) v in
           let less : k < key r = omega arith in
-          let near : key r + lenOf (key r) < k + weight (lenOf (key r)) = rw (← same) (omega arith) in
+          let near : key r + lenOf (key r) < k + eights (lenOf (key r)) = rw (← same) (omega arith) in
           absurd (apart k (key r) (lenOf (key r)) (omega arith) (rw same at e) ends less near)
       go false g false v =
           let other = eqb-false k (key r) g in

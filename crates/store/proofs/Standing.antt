@@ -18,7 +18,7 @@ use Rattle.contexts.proofs.Oldest.{none, some, oldest, parent-snoc, length-snoc
 use Rattle.records.specs.Records.{key, lookup}
 use Rattle.records.proofs.Rising.{rises-apart}
 use Rattle.records.proofs.Counting.{total-blank}
-use Rattle.store.specs.Layout.{headerSize, deskStart, used, symbolsAt, depthAt, slotsAt, recordsIn, totalOf}
+use Rattle.store.specs.Layout.{headerSize, deskStart, used, symbolsAt, depthAt, recentField, slotsAt, recordsIn, totalOf}
 use Rattle.store.specs.Sound.{ofAlphabet, heldBy, parentKey, recordOk, soundb}
 use Rattle.store.specs.Plain.{Open, ContextAt, recordFor, totalAt, Counts, nthRecord, Sound}
 use Rattle.store.proofs.Parts.{records-length}
@@ -62,8 +62,8 @@ module _ (s : List ℕ) (h : Passed s) (d : ℕ) (o : Open s d) (i : Sample) whe
 -- ---- what passes is sound
 
 pub slots-long : (s : List ℕ) (d : ℕ) (i : Sample) → d < desks → headerSize ≤ length s → length (slotsAt s d i) ≡ deepest
-slots-long s d first l h = length-take-le deepest (drop (deskStart d + 6) s) (rw (length-drop (deskStart d + 6) s) (omega arith))
-slots-long s d second l h = length-take-le deepest (drop (deskStart d + 12) s) (rw (length-drop (deskStart d + 12) s) (omega arith))
+slots-long s d first l h = length-take-le deepest (drop (deskStart d + recentField first) s) (rw (length-drop (deskStart d + recentField first) s) (omega arith))
+slots-long s d second l h = length-take-le deepest (drop (deskStart d + recentField second) s) (rw (length-drop (deskStart d + recentField second) s) (omega arith))
 
 module _ (s : List ℕ) (h : Passed s) where
   inside : (j : ℕ) → j < used s → j < length (recordsIn s)
@@ -104,6 +104,7 @@ sound-stands s e =
       alphabet-most = λ d o. desk d o .most;
       depth = λ d o. desk d o .depth;
       lengths = λ d o. desk d o .sizes;
+      weight = λ d o. desk d o .weight;
       symbols = λ d o i j l. ltb→lt (getD (slotsAt s d i) j 0) (symbolsAt s d) (all-at (ofAlphabet (symbolsAt s d)) (slotsAt s d i) j 0 (desk d o .slots i) (rw (slots-long s d i (o .desk) (omega (arith, f .long))) l));
       reservations = h .reserves;
       reserved-held = λ d o. desk d o .within;

@@ -30,9 +30,13 @@ used s = getD s 1 0
 abbrev pub deskStart : ℕ → ℕ
 deskStart d = 16 + 32 * d
 
--- .. of which the first 18 are in use: open or not, A, D, the reservation, the two lengths, six recent symbols of each sample
+-- .. the first five of them as the opening left them: open or not, A, D, the weight, the reservation
+abbrev pub openingNumbers : ℕ
+openingNumbers = 5
+
+-- .. and behind them the two lengths and six recent symbols of each sample, in use as well
 abbrev pub deskNumbers : ℕ
-deskNumbers = 18
+deskNumbers = openingNumbers + 14
 
 abbrev pub field : List ℕ → ℕ → ℕ → ℕ
 field s d f = getD s (deskStart d + f) 0
@@ -41,28 +45,31 @@ field s d f = getD s (deskStart d + f) 0
 abbrev pub isOpen : List ℕ → ℕ → Bool
 isOpen s d = eqb (field s d 0) 1
 
--- A, D and the reservation
+-- A, D, the weight and the reservation
 abbrev pub symbolsAt : List ℕ → ℕ → ℕ
 symbolsAt s d = field s d 1
 
 abbrev pub depthAt : List ℕ → ℕ → ℕ
 depthAt s d = field s d 2
 
+abbrev pub weightAt : List ℕ → ℕ → ℕ
+weightAt s d = field s d 3
+
 abbrev pub reserveAt : List ℕ → ℕ → ℕ
-reserveAt s d = field s d 3
+reserveAt s d = field s d 4
 
 -- n and m
 abbrev pub sizeField : Sample → ℕ
-sizeField first = 4
-sizeField second = 5
+sizeField first = openingNumbers
+sizeField second = openingNumbers + 1
 
 abbrev pub sizeAt : List ℕ → ℕ → Sample → ℕ
 sizeAt s d i = field s d (sizeField i)
 
 -- where a sample's six recent symbols begin, the most recent first
 abbrev pub recentField : Sample → ℕ
-recentField first = 6
-recentField second = 12
+recentField first = openingNumbers + 2
+recentField second = openingNumbers + 8
 
 abbrev pub slotsAt : List ℕ → ℕ → Sample → List ℕ
 slotsAt s d i = take deepest (drop (deskStart d + recentField i) s)

@@ -7,19 +7,19 @@ use Prim.Native.Nat.{ℕ, _≤_, _<_}
 use Prim.Native.Nat.{min}
 use lib.ListN.{take, length}
 use lib.Dec.{T, ltb}
-use Rattle.numbers.specs.Limits.{fewestSymbols, mostSymbols, deepest, longest, desks, mostRoom}
+use Rattle.numbers.specs.Limits.{fewestSymbols, mostSymbols, deepest, mostWeight, longest, desks, mostRoom}
 use Rattle.numbers.specs.Sum.{sum}
 use Rattle.contexts.specs.Context.{isContext}
 use Rattle.contexts.specs.Keys.{keyOf}
 use Rattle.contexts.specs.Sitting.{Sample, Sitting, Progress, totalIn, contextsHeld, sat}
 use Rattle.records.specs.Held.{countAt}
 use Rattle.replay.specs.Room.{Opening, Desk, closed, opened, Room, reserved}
-use Rattle.store.specs.Layout.{room, isOpen, symbolsAt, depthAt, reserveAt, sizeAt, slotsAt, recordsIn}
+use Rattle.store.specs.Layout.{room, isOpen, symbolsAt, depthAt, weightAt, reserveAt, sizeAt, slotsAt, recordsIn}
 
 -- ---- the meaning
 
 abbrev pub openingAt : List ℕ → ℕ → Opening
-openingAt s d = record { symbols = symbolsAt s d; depth = depthAt s d; reserve = reserveAt s d }
+openingAt s d = record { symbols = symbolsAt s d; depth = depthAt s d; weight = weightAt s d; reserve = reserveAt s d }
 
 -- the lengths, the last up to D symbols, and the counts in the records of the desk's contexts
 abbrev pub progressAt : List ℕ → ℕ → Progress
@@ -31,7 +31,7 @@ progressAt s d = record {
 
 -- the sitting at a desk
 abbrev pub sittingAt : List ℕ → ℕ → Sitting
-sittingAt s d = sat (symbolsAt s d) (depthAt s d) (progressAt s d)
+sittingAt s d = sat (symbolsAt s d) (depthAt s d) (weightAt s d) (progressAt s d)
 
 abbrev pub deskAt : List ℕ → ℕ → Desk Progress
 deskAt s d = cond (ltb d desks && isOpen s d) (opened (openingAt s d) (progressAt s d)) closed
@@ -43,10 +43,11 @@ meaning s = record { made = room s; at = deskAt s }
 
 -- the sitting of an opening, with what it has so far
 pub record SittingFits (o : Opening) (p : Progress) : Type 0 where
-  -- "alphabet size A from 2 to 8", "depth D from 0 to 6", a reservation
+  -- "alphabet size A from 2 to 8", "depth D from 0 to 6", a weight "from 0 to 16", a reservation
   pub alphabet-fewest : fewestSymbols ≤ o .symbols
   pub alphabet-most : o .symbols ≤ mostSymbols
   pub depth-most : o .depth ≤ deepest
+  pub weight-most : o .weight ≤ mostWeight
   pub reserve-some : 1 ≤ o .reserve
   -- "0 to 2,048 symbols"
   pub sizes : (i : Sample) → p .size i ≤ longest
@@ -57,11 +58,11 @@ pub record SittingFits (o : Opening) (p : Progress) : Type 0 where
   pub only-contexts : (i : Sample) (s : List ℕ) (a : ℕ) → (T (isContext (o .symbols) (o .depth) s) → ⊥) → p .count i s a ≡ 0
   pub only-below : (i : Sample) (s : List ℕ) (a : ℕ) → o .symbols ≤ a → p .count i s a ≡ 0
   -- "no context's total N(s) in a sample passes that sample's length"
-  pub totals : (i : Sample) (s : List ℕ) → totalIn (sat (o .symbols) (o .depth) p) i s ≤ p .size i
+  pub totals : (i : Sample) (s : List ℕ) → totalIn (sat (o .symbols) (o .depth) (o .weight) p) i s ≤ p .size i
   -- "no context is seen in a sample that has not seen its shorter suffixes"
-  pub suffixes : (i : Sample) (s : List ℕ) (a : ℕ) → 0 < totalIn (sat (o .symbols) (o .depth) p) i (s ++ a ∷ []) → 0 < totalIn (sat (o .symbols) (o .depth) p) i s
+  pub suffixes : (i : Sample) (s : List ℕ) (a : ℕ) → 0 < totalIn (sat (o .symbols) (o .depth) (o .weight) p) i (s ++ a ∷ []) → 0 < totalIn (sat (o .symbols) (o .depth) (o .weight) p) i s
   -- "no sitting holds more contexts than it reserved"
-  pub held-reserved : contextsHeld (sat (o .symbols) (o .depth) p) ≤ o .reserve
+  pub held-reserved : contextsHeld (sat (o .symbols) (o .depth) (o .weight) p) ≤ o .reserve
 
 pub record Fits (ρ : Room Progress) : Type 0 where
   -- "store room K from 1 to 4,096 contexts"

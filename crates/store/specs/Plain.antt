@@ -5,13 +5,13 @@ use mathlib.Core.List.{List, []}
 use Prim.Native.Nat.{ℕ, _+_, _≤_, _<_}
 use lib.ListN.{length, getD}
 use lib.Dec.{T}
-use Rattle.numbers.specs.Limits.{fewestSymbols, mostSymbols, deepest, longest, desks, mostRoom}
+use Rattle.numbers.specs.Limits.{fewestSymbols, mostSymbols, deepest, mostWeight, longest, desks, mostRoom}
 use Rattle.numbers.specs.Sum.{sum}
 use Rattle.contexts.specs.Context.{isContext, begins}
 use Rattle.contexts.specs.Keys.{keyOf}
 use Rattle.contexts.specs.Sitting.{Sample, first, second}
 use Rattle.records.specs.Records.{key, lookup, countOf}
-use Rattle.store.specs.Layout.{storeSize, room, used, isOpen, symbolsAt, depthAt, reserveAt, sizeAt, slotsAt, recordsIn, totalOf}
+use Rattle.store.specs.Layout.{storeSize, room, used, isOpen, symbolsAt, depthAt, weightAt, reserveAt, sizeAt, slotsAt, recordsIn, totalOf}
 use Rattle.store.specs.Sound.{heldBy, reservedAt}
 
 -- desk d is one of the eight and open
@@ -55,6 +55,8 @@ pub record Sound (s : List ℕ) : Type 0 where
   pub depth : (d : ℕ) → Open s d → depthAt s d ≤ deepest
   pub lengths : (d : ℕ) → Open s d → (i : Sample) → sizeAt s d i ≤ longest
   pub symbols : (d : ℕ) → Open s d → (i : Sample) (j : ℕ) → j < deepest → getD (slotsAt s d i) j 0 < symbolsAt s d
+  -- document 02, E5: "each open sitting's weight is within its limits"
+  pub weight : (d : ℕ) → Open s d → weightAt s d ≤ mostWeight
   -- "reservations add up to at most K"
   pub reservations : sum desks (reservedAt s) ≤ room s
   -- "no sitting holds more contexts than it reserved"

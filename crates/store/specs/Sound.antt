@@ -5,7 +5,7 @@ use mathlib.Core.List.{List}
 use Prim.Native.Nat.{ℕ, _+_}
 use lib.ListN.{getD, length}
 use lib.Dec.{leb, ltb, eqb}
-use Rattle.numbers.specs.Limits.{fewestSymbols, mostSymbols, deepest, longest, desks, mostRoom}
+use Rattle.numbers.specs.Limits.{fewestSymbols, mostSymbols, deepest, mostWeight, longest, desks, mostRoom}
 use Rattle.numbers.specs.Sum.{sum}
 use Rattle.numbers.specs.Every.{every, all}
 use Rattle.contexts.specs.Context.{isContext, parentOf}
@@ -13,7 +13,7 @@ use Rattle.contexts.specs.Keys.{keyOf, deskOf, contextOf}
 use Rattle.contexts.specs.Sitting.{Sample, first, second, sumOf}
 use Rattle.records.specs.Records.{key, keys, countsOf, rises, lookup}
 use Rattle.records.specs.Held.{keep, ofDesk}
-use Rattle.store.specs.Layout.{storeSize, room, used, isOpen, symbolsAt, depthAt, reserveAt, sizeAt, slotsAt, recordsIn, totalOf}
+use Rattle.store.specs.Layout.{storeSize, room, used, isOpen, symbolsAt, depthAt, weightAt, reserveAt, sizeAt, slotsAt, recordsIn, totalOf}
 
 -- both samples pass
 abbrev pub eachSample : (Sample → Bool) → Bool
@@ -27,14 +27,15 @@ frameOk s = leb 1 (room s) && (leb (room s) mostRoom && (leb (storeSize (room s)
 
 -- ---- a desk
 
--- A, D, the reservation and the lengths are within their limits
+-- A, D, the weight, the reservation and the lengths are within their limits
 unfoldable pub limitsOk : List ℕ → ℕ → Bool
 limitsOk s d =
     leb fewestSymbols (symbolsAt s d)
     && (leb (symbolsAt s d) mostSymbols
     && (leb (depthAt s d) deepest
+    && (leb (weightAt s d) mostWeight
     && (leb 1 (reserveAt s d)
-    && eachSample (λ i. leb (sizeAt s d i) longest))))
+    && eachSample (λ i. leb (sizeAt s d i) longest)))))
 
 -- a symbol is of the alphabet
 abbrev pub ofAlphabet : ℕ → ℕ → Bool

@@ -7,7 +7,7 @@ use lib.ListN.{length, getD, set, replicate}
 use lib.Dec.{leb, ltb, eqb}
 use Rattle.numbers.specs.Limits.{desks}
 use Rattle.numbers.specs.Every.{every}
-use Rattle.contexts.specs.Keys.{deskSpan, deskOf, lenOf, weight}
+use Rattle.contexts.specs.Keys.{deskSpan, deskOf, lenOf, eights}
 use Rattle.contexts.specs.Sitting.{Sample, first, second}
 use Rattle.records.specs.Records.{width, key}
 use Rattle.store.specs.Layout.{isOpen, symbolsAt, depthAt, totalOf}
@@ -17,15 +17,15 @@ use Rattle.store.specs.Sound.{tableOk, deskTest, deskOk}
 
 -- the oldest symbol is below A. The newer ones are those of the parent, whose record has its own test
 unfoldable pub oldestOk : ℕ → ℕ → Bool
-oldestOk A k = ltb (k % deskSpan / weight (lenOf k) % 8) A
+oldestOk A k = ltb (k % deskSpan / eights (lenOf k) % 8) A
 
 -- nothing stands past the length
 unfoldable pub endsOk : ℕ → Bool
-endsOk k = eqb (k % weight (lenOf k)) (lenOf k)
+endsOk k = eqb (k % eights (lenOf k)) (lenOf k)
 
 -- one more than the parent's key; 0 for the empty context
 unfoldable pub upMark : ℕ → ℕ
-upMark k = k / weight (lenOf k) / 8 * 8 * weight (lenOf k) + lenOf k
+upMark k = k / eights (lenOf k) / 8 * 8 * eights (lenOf k) + lenOf k
 
 unfoldable pub keyFits : List ℕ → ℕ → Bool
 keyFits s k =

@@ -12,13 +12,13 @@ pub const ROOM: usize = 0;
 
 pub const USED: usize = 1;
 
-// A desk's numbers: open or not, A, D, the reservation, the lengths, the recent symbols.
+// A desk's numbers: open or not, A, D, the weight, the reservation, the lengths, the recent symbols.
 pub const FIRST_DESK: usize = 16;
 
 pub const DESK_SIZE: usize = 32;
 
 // How many of them are in use.
-pub const DESK_NUMBERS: usize = 18;
+pub const DESK_NUMBERS: usize = 19;
 
 pub const OPEN: usize = 0;
 
@@ -26,15 +26,17 @@ pub const SYMBOLS: usize = 1;
 
 pub const DEPTH: usize = 2;
 
-pub const RESERVE: usize = 3;
+pub const WEIGHT: usize = 3;
 
-pub const SIZE_FIRST: usize = 4;
+pub const RESERVE: usize = 4;
 
-pub const SIZE_SECOND: usize = 5;
+pub const SIZE_FIRST: usize = 5;
 
-pub const RECENT_FIRST: usize = 6;
+pub const SIZE_SECOND: usize = 6;
 
-pub const RECENT_SECOND: usize = 12;
+pub const RECENT_FIRST: usize = 7;
+
+pub const RECENT_SECOND: usize = 13;
 
 pub const SLOTS: usize = 6;
 

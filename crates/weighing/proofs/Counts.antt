@@ -8,18 +8,18 @@ use native.Mathlib.Nat.{mul-le-mul}
 use lib.ListN.{length, getD}
 use lib.Seq.{ext-getD}
 use lib.Dec.{T}
-use Rattle.numbers.specs.Limits.{mostSymbols, mostCounted, topLog}
+use Rattle.numbers.specs.Limits.{mostSymbols, mostWeight, mostCounted}
 use Rattle.numbers.specs.Sum.{sum}
 use Rattle.numbers.proofs.Tests.{is-true, is-false, T?}
 use Rattle.numbers.proofs.Sums.{sum-add, sum-past}
-use Rattle.logarithm.proofs.Laws.{L-top, weight-top}
+use Rattle.logarithm.proofs.Laws.{L-top, term-top}
 use Rattle.contexts.specs.Context.{isContext}
 use Rattle.contexts.specs.Keys.{keyOf}
 use Rattle.contexts.specs.Sitting.{Sample, first, second, Sitting, totalIn, eight, table, rowIn, sumOf}
 use Rattle.estimate.specs.Trees.{Kind, shared, own, from}
 use Rattle.estimate.specs.Score.{counts, sizeOf, cost}
 use Rattle.estimate.specs.Recursion.{spread, losses}
-use Rattle.estimate.specs.Table.{forKind, CostsOf, LossesOf}
+use Rattle.estimate.specs.Table.{forKind, CostsOf, mostCost, mostSpread, LossesOf}
 use Rattle.estimate.specs.declared.ByKind.{ByKind}
 use Rattle.contexts.proofs.Tables.{eight-at, sum-eight}
 use Rattle.estimate.proofs.Tables.{kind-none, table-losses}
@@ -39,13 +39,13 @@ eight-list : (c : ℕ → ℕ) (q : List ℕ) → length q ≡ mostSymbols → (
 eight-list c q h e = ext-getD 0 (eight c) q (sym h) (λ a l. eight-at c a l ∙ e a)
 
 -- what a context of a kind costs at most
-price-small : (A n : ℕ) → A ≤ mostSymbols → n ≤ mostCounted → cost A n ≤ mostSymbols * topLog
-price-small A n few h = let p : A - 1 ≤ mostSymbols = omega arith in mul-le-mul p (L-top n h)
+price-small : (W A n : ℕ) → W ≤ mostWeight → A ≤ mostSymbols → n ≤ mostCounted → cost W A n ≤ mostCost
+price-small W A n light few h = let p : A - 1 ≤ mostSymbols = omega arith in mul-le-mul light (mul-le-mul p (L-top n h))
 
 -- .. and adds to its loss
-spread-most : (A : ℕ) (c : ℕ → ℕ) → sum A c ≤ mostCounted → spread A c ≤ 2 * (mostCounted * topLog)
+spread-most : (A : ℕ) (c : ℕ → ℕ) → sum A c ≤ mostCounted → spread A c ≤ mostSpread
 unfolding spread
-spread-most A c h = let t = weight-top (sum A c) h in omega arith
+spread-most A c h = let t = term-top (sum A c) h in omega arith
 
 module _ (k : Desk) (n : ℕ) (l : List ℕ) (w : Weighable k n l) where
   abbrev sitting : Sitting
@@ -74,16 +74,16 @@ module _ (k : Desk) (n : ℕ) (l : List ℕ) (w : Weighable k n l) where
       all : (i : Sample) → sumOf (eight (sitting .count i s)) ≡ totalIn sitting i s
       all i = sum-eight (sitting .count i s) ∙ sum-past (k .symbols) mostSymbols (sitting .count i s) (w .few) (w .below i s)
 
-  module _ (costs : ByKind) (priced : CostsOf (k .symbols) (k .n) (k .m) costs) where
-    pub costs-small : (t : Kind) → forKind costs t ≤ mostSymbols * topLog
-    costs-small shared = rw (priced .shared) (price-small (k .symbols) (k .n + k .m) (w .few) (w .sized))
-    costs-small (own first) = rw (priced .first) (price-small (k .symbols) (k .n) (w .few) (omega (arith, w .sized)))
-    costs-small (own second) = rw (priced .second) (price-small (k .symbols) (k .m) (w .few) (omega (arith, w .sized)))
+  module _ (costs : ByKind) (priced : CostsOf (k .weight) (k .symbols) (k .n) (k .m) costs) where
+    pub costs-small : (t : Kind) → forKind costs t ≤ mostCost
+    costs-small shared = rw (priced .shared) (price-small (k .weight) (k .symbols) (k .n + k .m) (w .light) (w .few) (w .sized))
+    costs-small (own first) = rw (priced .first) (price-small (k .weight) (k .symbols) (k .n) (w .light) (w .few) (omega (arith, w .sized)))
+    costs-small (own second) = rw (priced .second) (price-small (k .weight) (k .symbols) (k .m) (w .light) (w .few) (omega (arith, w .sized)))
 
     pub losses-here : (s : List ℕ) (r : ByKind) → LossesOf (table sitting s) costs r → (t : Kind) → forKind r t ≡ losses sitting t s
     losses-here s r o = table-losses sitting s costs r (w .few) (λ i a h. w .below i s a h) priced o
 
-    costs-are : (t : Kind) → forKind costs t ≡ cost (k .symbols) (sizeOf sitting t)
+    costs-are : (t : Kind) → forKind costs t ≡ cost (k .weight) (k .symbols) (sizeOf sitting t)
     costs-are shared = priced .shared
     costs-are (own first) = priced .first
     costs-are (own second) = priced .second

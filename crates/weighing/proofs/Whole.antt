@@ -37,7 +37,7 @@ root-is k = ap contextOf (root-key k) ∙ contextOf-key (k .number) [] tt
 
 module _ {k : Desk} {n : ℕ} {l : List ℕ} (w : Weighable k n l) {p : ℕ} (at : p ≡ rank (k .number * deskSpan) (keys (records n l))) where
   -- the walk begins at the empty context ..
-  pub root-ready : {costs : ByKind} → CostsOf (k .symbols) (k .n) (k .m) costs → Arrived k costs n l (contextOf (k .number * deskSpan)) (record { key = k .number * deskSpan; span = deskSpan; left = k .depth }) p
+  pub root-ready : {costs : ByKind} → CostsOf (k .weight) (k .symbols) (k .n) (k .m) costs → Arrived k costs n l (contextOf (k .number * deskSpan)) (record { key = k .number * deskSpan; span = deskSpan; left = k .depth }) p
   unfolding isContext
   root-ready {costs} priced = subst (λ (s : List ℕ). Arrived k costs n l s (record { key = k .number * deskSpan; span = deskSpan; left = k .depth }) p) (sym (root-is k)) (record {
     weighable = w;

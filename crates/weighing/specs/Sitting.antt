@@ -5,7 +5,7 @@ use mathlib.Core.List.{List}
 use Prim.Native.Nat.{ℕ, _+_, _≤_, _<_}
 use lib.ListN.{getD}
 use lib.Dec.{T}
-use Rattle.numbers.specs.Limits.{mostSymbols, deepest, mostCounted, desks}
+use Rattle.numbers.specs.Limits.{mostSymbols, deepest, mostWeight, mostCounted, desks}
 use Rattle.contexts.specs.Context.{isContext}
 use Rattle.contexts.specs.Keys.{keyOf, deskOf}
 use Rattle.contexts.specs.Sitting.{Sample, first, second, Sitting, totalIn}
@@ -24,6 +24,7 @@ abbrev pub sittingIn : Desk → List (List ℕ) → Sitting
 sittingIn k rs = record {
   symbols = k .symbols;
   depth = k .depth;
+  weight = k .weight;
   size = sizes (k .n) (k .m);
   count = λ i s a. cond (isContext (k .symbols) (k .depth) s) (getD (countsOf i (lookup (keyOf (k .number) s) rs)) a 0) 0;
 }
@@ -35,6 +36,7 @@ pub record Weighable (k : Desk) (n : ℕ) (l : List ℕ) : Type 0 where
   pub some : 1 ≤ k .symbols
   pub few : k .symbols ≤ mostSymbols
   pub shallow : k .depth ≤ deepest
+  pub light : k .weight ≤ mostWeight
   pub sized : k .n + k .m ≤ mostCounted
   -- every record of the desk is that of one of its contexts ..
   pub contexts : (key : ℕ) → T (held key (records n l)) → deskOf key ≡ k .number → (s : List ℕ) × T (isContext (k .symbols) (k .depth) s) × (key ≡ keyOf (k .number) s)

@@ -5,14 +5,14 @@ use mathlib.Core.List.{List}
 use Prim.Native.Nat.{ℕ, suc, _+_, _-_, _*_, _^_, _≤_, _<_, min}
 use lib.ListN.{length, getD, set}
 use lib.Dec.{T, leb}
-use Rattle.numbers.specs.Limits.{deepest, mostSymbols, mostCounted, topLog}
+use Rattle.numbers.specs.Limits.{deepest, mostCounted}
 use Rattle.numbers.specs.Sum.{one}
 use Rattle.contexts.specs.Context.{isContext}
 use Rattle.contexts.specs.Keys.{digits, deskSpan, keyOf, contextOf}
 use Rattle.contexts.specs.Sitting.{first, second, rowIn, sumOf}
 use Rattle.estimate.specs.Trees.{Kind}
 use Rattle.estimate.specs.Recursion.{losses}
-use Rattle.estimate.specs.Table.{forKind, CostsOf}
+use Rattle.estimate.specs.Table.{forKind, CostsOf, mostCost, mostSpread}
 use Rattle.estimate.specs.declared.ByKind.{ByKind}
 use Rattle.records.specs.Records.{width, records, keys}
 use Rattle.records.specs.Held.{rank, held, recordAt, countTable}
@@ -36,14 +36,14 @@ endOf d s = d * deskSpan + (digits deepest s * 8 + spanOf s)
 pub record Countable (l : List ℕ) (p : ℕ) (costs : ByKind) : Type 0 where
   pub fits : width * (p + 1) ≤ length l
   pub counted : sumOf (rowIn (countTable (recordAt p l)) first) + sumOf (rowIn (countTable (recordAt p l)) second) ≤ mostCounted
-  pub shared-cost : costs .shared ≤ mostSymbols * topLog
-  pub first-cost : costs .first ≤ mostSymbols * topLog
-  pub second-cost : costs .second ≤ mostSymbols * topLog
+  pub shared-cost : costs .shared ≤ mostCost
+  pub first-cost : costs .first ≤ mostCost
+  pub second-cost : costs .second ≤ mostCost
 
 -- the walk has come to the context s of a desk
 pub record Arrived (k : Desk) (costs : ByKind) (n : ℕ) (l : List ℕ) (s : List ℕ) (c : Context) (p : ℕ) : Type 0 where
   pub weighable : Weighable k n l
-  pub priced : CostsOf (k .symbols) (k .n) (k .m) costs
+  pub priced : CostsOf (k .weight) (k .symbols) (k .n) (k .m) costs
   pub context : T (isContext (k .symbols) (k .depth) s)
   pub key-is : c .key ≡ keyOf (k .number) s
   pub span-is : c .span ≡ spanOf s
@@ -79,7 +79,7 @@ pub record Visited (k : Desk) (n : ℕ) (l : List ℕ) (s : List ℕ) (d p : ℕ
 
 -- no loss is above this
 abbrev pub mostLoss : ℕ
-mostLoss = mostSymbols * topLog + 2 * (mostCounted * topLog)
+mostLoss = mostCost + mostSpread
 
 -- two such losses can be added
 pub record Small (own : ByKind) : Type 0 where

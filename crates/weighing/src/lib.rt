@@ -17,11 +17,12 @@ use estimate::ByKind;
 use records::DESK_SPAN;
 use records::stands;
 
-// An open desk: its number, A, D and the samples' lengths.
+// An open desk: its number, A, D, the weight and the samples' lengths.
 pub struct Desk {
     pub number: u32,
     pub symbols: u32,
     pub depth: u32,
+    pub weight: u32,
     pub n: u32,
     pub m: u32,
 }
@@ -39,7 +40,7 @@ pub fn weigh(logs: &[u32], numbers: &[u32], n: usize, desk: Desk, kept: &mut [u8
     requires { ⌜ AreLogs (now logs) × CanWeigh desk n (now numbers) (now kept) ⌝ }
     ensures { λ r. ⌜ Weighs desk n (now (numbers .entry)) (now (kept .entry)) (now (kept .exit)) r ⌝ }
 {
-    let costs = estimate::costs_of(logs, desk.symbols, desk.n, desk.m);
+    let costs = estimate::costs_of(logs, desk.weight, desk.symbols, desk.n, desk.m);
     let key = desk.number * DESK_SPAN;
     let root = Context {
         key,

@@ -26,19 +26,19 @@ returns c =
     let at = c .before .before .loop in
     unread-outside (x .symbols) (x .desk) (x .length) (x .code) (start .pre .1) (at .key) (at .rest) (at .left) (at .inv) (c .before .loop-test .taken) (c .if1 .taken)
 
-sub-weight-of : tie.Need-sub-weight-of Inv-loop μ-loop
-sub-weight-of c = omega (arith, c .before .before .loop .inv .within)
+sub-eights-of : tie.Need-sub-eights-of Inv-loop μ-loop
+sub-eights-of c = omega (arith, c .before .before .loop .inv .within)
 
-weight-of-requires : tie.Need-weight-of-requires Inv-loop μ-loop
-weight-of-requires c κs = omega (arith, c .before .before .loop .inv .within)
+eights-of-requires : tie.Need-eights-of-requires Inv-loop μ-loop
+eights-of-requires c κs = omega (arith, c .before .before .loop .inv .within)
 
--- the longer key fits, by the weight that was worked out
-next-fits : (c : tie.After-weight-of Inv-loop μ-loop) → c .before .before .before .loop .key + (c .before .before .before .loop .rest % 8 * c .weight-of .result + 1) < desks * deskSpan
+-- the longer key fits, by the eights that was worked out
+next-fits : (c : tie.After-eights-of Inv-loop μ-loop) → c .before .before .before .loop .key + (c .before .before .before .loop .rest % 8 * c .eights-of .result + 1) < desks * deskSpan
 next-fits c =
     let start = c .before .before .before .before in
     let x = start .args in
     let at = c .before .before .before .loop in
-    rw (c .weight-of .ensures)
+    rw (c .eights-of .ensures)
     (unread-fits (x .symbols) (x .desk) (x .length) (x .code) (start .pre .1) (at .key) (at .rest) (start .pre .0) (at .left) (at .inv) (c .before .before .loop-test .taken))
 
 mul-key-2 : tie.Need-mul-key-2 Inv-loop μ-loop
@@ -61,7 +61,7 @@ loop-again c =
     let start = c .before .before .before .before in
     let x = start .args in
     let at = c .before .before .before .loop in
-    rw (c .weight-of .ensures)
+    rw (c .eights-of .ensures)
     (unread-on (x .symbols) (x .desk) (x .length) (x .code) (start .pre .1) (at .key) (at .rest) (at .left) (at .inv) (c .before .before .loop-test .taken) (c .before .if1 .left))
 
 returns-2 : tie.Need-returns-2 Inv-loop μ-loop
@@ -87,8 +87,8 @@ key-of-spec =
     mul-key
     loop-holds
     returns
-    sub-weight-of
-    weight-of-requires
+    sub-eights-of
+    eights-of-requires
     mul-key-2
     add-key
     add-key-2

@@ -1,4 +1,4 @@
--- `desks::lay_out` meets its contract: the first i numbers are 0, then the first four are written. Assumes nothing.
+-- `desks::lay_out` meets its contract: the first i numbers are 0, then those that the opening names are written. Assumes nothing.
 use mathlib.Core.Path.{_≡_, refl, sym, _∙_}
 use mathlib.Core.List.{_++_}
 use Prim.Native.Nat.{_-_, _≤_}
@@ -11,10 +11,10 @@ use Rattle.desks.proofs.lay_out.Statement.{statement}
 use Rattle.desks.proofs.lay_out.Tie as tie
 
 abbrev Inv-loop : tie.InvT-loop
-Inv-loop part₀ alphabet depth reservation i₀ part i = (i ≤ deskNumbers) × (length part ≡ deskNumbers) × (part ≡ replicate i 0 ++ drop i part₀)
+Inv-loop part₀ alphabet depth weight reservation i₀ part i = (i ≤ deskNumbers) × (length part ≡ deskNumbers) × (part ≡ replicate i 0 ++ drop i part₀)
 
 abbrev μ-loop : tie.MeasureT-loop
-μ-loop part₀ alphabet depth reservation i₀ part i = deskNumbers - i
+μ-loop part₀ alphabet depth weight reservation i₀ part i = deskNumbers - i
 
 loop-holds : tie.Need-loop-holds Inv-loop μ-loop
 loop-holds c = (omega arith, c .pre, refl)
@@ -49,6 +49,9 @@ slice-write-part-4 c = simp length-set (omega arith)
 slice-write-part-5 : tie.Need-slice-write-part-5 Inv-loop μ-loop
 slice-write-part-5 c = simp length-set (omega arith)
 
+slice-write-part-6 : tie.Need-slice-write-part-6 Inv-loop μ-loop
+slice-write-part-6 c = simp length-set (omega arith)
+
 same-length : tie.Need-same-length Inv-loop μ-loop
 same-length c = simp length-set (c .before .loop .inv .1 ∙ sym (c .before .before .pre))
 
@@ -56,7 +59,7 @@ returns : tie.Need-returns Inv-loop μ-loop
 returns c =
     let at = c .before .loop in
     let x = c .before .before .args in
-    laid-out (x .part .now) (at .part) (at .i) (x .alphabet) (x .depth) (x .reservation) (c .before .before .pre) (c .loop-test .left) (at .inv .0) (at .inv .2)
+    laid-out (x .part .now) (at .part) (at .i) (x .alphabet) (x .depth) (x .weight) (x .reservation) (c .before .before .pre) (c .loop-test .left) (at .inv .0) (at .inv .2)
 
 pub lay-out-spec : {M : Type 1} → statement M
 lay-out-spec =
@@ -74,5 +77,6 @@ lay-out-spec =
     slice-write-part-3
     slice-write-part-4
     slice-write-part-5
+    slice-write-part-6
     same-length
     returns)

@@ -20,7 +20,7 @@ returns : tie.Need-returns
 returns c =
     let x = c .before .before .args in
     let p = c .before .before .pre in
-    let o = naming (x .alphabet) (x .depth) (x .reservation) in
+    let o = naming (x .alphabet) (x .depth) (x .weight) (x .reservation) in
     moves-refused (x .store .now) (atDesk (x .desk) (opening o)) 6 (p .sound) (zero-reserved (meaning (x .store .now)) (x .desk) o (ready-there (x .store .now) (x .desk) o p) (c .if1 .taken))
 
 slice-read-room : tie.Need-slice-read-room
@@ -31,7 +31,7 @@ returns-2 c =
     let one = c .before .before in
     let x = one .before .before .args in
     let p = one .before .before .pre in
-    let o = naming (x .alphabet) (x .depth) (x .reservation) in
+    let o = naming (x .alphabet) (x .depth) (x .weight) (x .reservation) in
     moves-refused (x .store .now) (atDesk (x .desk) (opening o)) 6 (p .sound) (above-room (meaning (x .store .now)) (x .desk) o (ready-there (x .store .now) (x .desk) o p) (some one) (rw (room-made (x .store .now)) (c .if2 .taken)))
 
 left-in-requires : tie.Need-left-in-requires
@@ -46,7 +46,7 @@ returns-3 c =
     let one = two .before .before in
     let x = one .before .before .args in
     let p = one .before .before .pre in
-    let o = naming (x .alphabet) (x .depth) (x .reservation) in
+    let o = naming (x .alphabet) (x .depth) (x .weight) (x .reservation) in
     moves-refused (x .store .now) (atDesk (x .desk) (opening o)) 7 (p .sound)
     (above-left (meaning (x .store .now)) (x .desk) o (ready-there (x .store .now) (x .desk) o p) (some one) (rw (room-made (x .store .now)) (two .if2 .left)) (rw (← c .before .left-in .ensures) (c .if3 .taken)))
 
@@ -65,7 +65,7 @@ returns-4 c =
     let one = two .before .before in
     let x = one .before .before .args in
     let p = one .before .before .pre in
-    let o = naming (x .alphabet) (x .depth) (x .reservation) in
+    let o = naming (x .alphabet) (x .depth) (x .weight) (x .reservation) in
     opened-moves (x .store .now) (c .before .before .set-up .last .0) (x .desk) o (p .sound) (p .shut)
     (record {
       ready = ready-there (x .store .now) (x .desk) o p;

@@ -2,6 +2,7 @@
 use Prim.Native.Nat.{_+_}
 use native.Mathlib.Omega.{arith}
 use borrow.Author.Needs.{needs}
+use Rattle.store.specs.Layout.{openingNumbers}
 use Rattle.store.proofs.Passing.{field-readable}
 use Rattle.entering.proofs.Copying.{counted-is}
 use Rattle.entering.proofs.is_counted.Statement.{statement}
@@ -14,7 +15,7 @@ field-at-requires : tie.Need-field-at-requires
 field-at-requires c κs =
     let start = c .before in
     let x = start .args in
-    field-readable (x .store .now) (start .pre .0) (x .desk) (start .pre .1 .desk) (4 + x .sample) (omega (arith, start .pre .2))
+    field-readable (x .store .now) (start .pre .0) (x .desk) (start .pre .1 .desk) (openingNumbers + x .sample) (omega (arith, start .pre .2))
 
 field-at-requires-2 : tie.Need-field-at-requires-2
 field-at-requires-2 c κs =

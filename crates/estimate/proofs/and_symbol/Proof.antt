@@ -10,7 +10,7 @@ use Rattle.estimate.proofs.and_symbol.Tie as tie
 
 -- nothing to add
 nothing : (s : Sums) (x y : ℕ) → x ≡ 0 → y ≡ 0 → SumsAnd s x y s
-nothing s x y e f = rw (e, f) (record { first-sum = omega arith; second-sum = omega arith; shared-weights = omega arith; first-weights = omega arith; second-weights = omega arith })
+nothing s x y e f = rw (e, f) (record { first-sum = omega arith; second-sum = omega arith; shared-terms = omega arith; first-terms = omega arith; second-terms = omega arith })
 
 add-if1 : tie.Need-add-if1
 add-if1 c = search needs
@@ -18,23 +18,23 @@ add-if1 c = search needs
 returns : tie.Need-returns
 returns c = let x = c .before .before .args in let h : x .x + x .y ≡ 0 = c .if1 .taken in nothing (x .sums) (x .x) (x .y) (omega arith) (omega arith)
 
-add-weight-of : tie.Need-add-weight-of
-add-weight-of c = search needs
+add-term-of : tie.Need-add-term-of
+add-term-of c = search needs
 
-weight-of-requires : tie.Need-weight-of-requires
-weight-of-requires c κs = search needs
+term-of-requires : tie.Need-term-of-requires
+term-of-requires c κs = search needs
 
 add-t10 : tie.Need-add-t10
 add-t10 c = search needs
 
-weight-of-requires-2 : tie.Need-weight-of-requires-2
-weight-of-requires-2 c κs = search needs
+term-of-requires-2 : tie.Need-term-of-requires-2
+term-of-requires-2 c κs = search needs
 
 add-t12 : tie.Need-add-t12
 add-t12 c = search needs
 
-weight-of-requires-3 : tie.Need-weight-of-requires-3
-weight-of-requires-3 c κs = search needs
+term-of-requires-3 : tie.Need-term-of-requires-3
+term-of-requires-3 c κs = search needs
 
 add-t14 : tie.Need-add-t14
 add-t14 c = search needs
@@ -54,12 +54,12 @@ and-symbol-spec =
     (tie.spec
     add-if1
     returns
-    add-weight-of
-    weight-of-requires
+    add-term-of
+    term-of-requires
     add-t10
-    weight-of-requires-2
+    term-of-requires-2
     add-t12
-    weight-of-requires-3
+    term-of-requires-3
     add-t14
     add-t7
     add-t15

@@ -14,7 +14,7 @@ use Rattle.estimate.proofs.sums_of.Tie as tie
 
 -- a table is its two rows
 again : (t : List (List ℕ)) {a : ℕ} {s : Sums} → SumsOf a (getD t 0 [] ∷ getD t 1 [] ∷ []) s → SumsOf a t s
-again t p = record { first-sum = p .first-sum; second-sum = p .second-sum; shared-weights = p .shared-weights; first-weights = p .first-weights; second-weights = p .second-weights }
+again t p = record { first-sum = p .first-sum; second-sum = p .second-sum; shared-terms = p .shared-terms; first-terms = p .first-terms; second-terms = p .second-terms }
 
 abbrev Inv-loop : tie.InvT-loop
 Inv-loop logs x y sums₀ a₀ sums a = (a ≤ mostSymbols) × SumsOf a (x ∷ y ∷ []) sums

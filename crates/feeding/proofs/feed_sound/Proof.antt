@@ -2,6 +2,7 @@
 use Prim.Native.Nat.{_+_}
 use native.Mathlib.Omega.{arith}
 use borrow.Author.Needs.{needs}
+use Rattle.store.specs.Layout.{openingNumbers}
 use Rattle.store.specs.Plain.{Open}
 use Rattle.store.proofs.Passing.{field-readable}
 use Rattle.feeding.proofs.Refusing.{opened, refused-desk, refused-open, refused-sample, refused-symbol, refused-full, judged}
@@ -65,7 +66,7 @@ field-at-requires-3 : tie.Need-field-at-requires-3
 field-at-requires-3 c κs =
     let start = c .before .before .before .before .before .before .before .before .before .before in
     let x = start .args in
-    field-readable (x .store .now) (start .pre) (x .desk) (open-there (c .before .before .before .before .before) .desk) (4 + x .sample) (omega (arith, c .before .before .before .before .if3 .left))
+    field-readable (x .store .now) (start .pre) (x .desk) (open-there (c .before .before .before .before .before) .desk) (openingNumbers + x .sample) (omega (arith, c .before .before .before .before .if3 .left))
 
 same-length-4 : tie.Need-same-length-4
 same-length-4 c = search needs

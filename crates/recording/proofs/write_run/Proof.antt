@@ -10,11 +10,11 @@ use Rattle.recording.proofs.write_run.Statement.{statement}
 use Rattle.recording.proofs.write_run.Tie as tie
 
 abbrev Inv-loop : tie.InvT-loop
-Inv-loop part₀ desk recent found cell key₀ weight₀ seen₀ part key weight seen =
-    Walk desk recent key weight seen × (length part ≡ length part₀) × Run desk recent found cell seen part
+Inv-loop part₀ desk recent found cell key₀ eights₀ seen₀ part key eights seen =
+    Walk desk recent key eights seen × (length part ≡ length part₀) × Run desk recent found cell seen part
 
 abbrev μ-loop : tie.MeasureT-loop
-μ-loop part₀ desk recent found cell key₀ weight₀ seen₀ part key weight seen = length recent + 1 - seen
+μ-loop part₀ desk recent found cell key₀ eights₀ seen₀ part key eights seen = length recent + 1 - seen
 
 mul-key : tie.Need-mul-key Inv-loop μ-loop
 mul-key c = omega arith
@@ -34,7 +34,7 @@ longer-requires c κs =
     let start = c .before .before .before .before .before .before .before .before in
     let x = start .args in
     let at = c .before .before .before .before .before .loop in
-    walk-fits (x .desk) (x .recent .now) (start .pre .desk) (start .pre .context) (at .key) (at .weight) (at .seen) (at .inv .0)
+    walk-fits (x .desk) (x .recent .now) (start .pre .desk) (start .pre .context) (at .key) (at .eights) (at .seen) (at .inv .0)
 
 add-seen : tie.Need-add-seen Inv-loop μ-loop
 add-seen c = omega arith
@@ -49,7 +49,7 @@ loop-again c =
     let at = c .before .before .before .before .before .before .loop in
     let wrote = c .before .before .before .write-past in
     let on : at .seen ≤ length (x .recent .now) = omega arith in (
-      walk-on (x .desk) (x .recent .now) (start .pre .desk) (start .pre .context) (at .key) (at .weight) (at .seen) (at .inv .0) (c .longer .result) on (c .longer .ensures),
+      walk-on (x .desk) (x .recent .now) (start .pre .desk) (start .pre .context) (at .key) (at .eights) (at .seen) (at .inv .0) (c .longer .result) on (c .longer .ensures),
       search needs,
       run-on (x .desk) (x .recent .now) (x .found) (x .cell) (at .seen) (at .key) (at .part) (wrote .last .0) (at .inv .0 .key-is on) (at .inv .2) (wrote .ensures),
     )

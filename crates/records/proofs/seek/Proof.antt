@@ -13,11 +13,11 @@ use Rattle.records.proofs.seek.Statement.{statement}
 use Rattle.records.proofs.seek.Tie as tie
 
 abbrev Inv-loop : tie.InvT-loop
-Inv-loop l n desk recent places₀ key₀ weight₀ from₀ found₀ places key weight from found =
-    Walk desk recent key weight found × Passed desk recent (records n l) places from found
+Inv-loop l n desk recent places₀ key₀ eights₀ from₀ found₀ places key eights from found =
+    Walk desk recent key eights found × Passed desk recent (records n l) places from found
 
 abbrev μ-loop : tie.MeasureT-loop
-μ-loop l n desk recent places₀ key₀ weight₀ from₀ found₀ places key weight from found = length recent + 1 - found
+μ-loop l n desk recent places₀ key₀ eights₀ from₀ found₀ places key eights from found = length recent + 1 - found
 
 -- there is a place for each context
 inside : (c : tie.After-place-from Inv-loop μ-loop) → (let at = c .before .before .loop in at .found < length (at .places))
@@ -38,7 +38,7 @@ place-from-requires c κs =
     let start = c .before .before .before .before in
     let x = start .args in
     let at = c .before .loop in
-    onward (x .desk) (x .recent .now) (x .n) (x .numbers .now) (start .pre) (at .places) (at .key) (at .weight) (at .from) (at .found) (at .inv .0) (at .inv .1) (omega arith)
+    onward (x .desk) (x .recent .now) (x .n) (x .numbers .now) (start .pre) (at .places) (at .key) (at .eights) (at .from) (at .found) (at .inv .0) (at .inv .1) (omega arith)
 
 mul-places : tie.Need-mul-places Inv-loop μ-loop
 mul-places c = omega arith
@@ -55,7 +55,7 @@ returns c =
     let start = placed .before .before .before .before .before in
     let x = start .args in
     let at = placed .before .before .loop in
-    located-here (x .desk) (x .recent .now) (x .n) (x .numbers .now) (start .pre) (at .places) (at .key) (at .weight) (at .from) (at .found) (at .inv .0) (at .inv .1) (omega arith)
+    located-here (x .desk) (x .recent .now) (x .n) (x .numbers .now) (start .pre) (at .places) (at .key) (at .eights) (at .from) (at .found) (at .inv .0) (at .inv .1) (omega arith)
     (inside placed) (placed .place-from .result) (placed .place-from .ensures) (sym (c .before .stands .ensures) ∙ not-true _ (c .if1 .taken))
 
 longer-requires : tie.Need-longer-requires Inv-loop μ-loop
@@ -64,7 +64,7 @@ longer-requires c κs =
     let start = placed .before .before .before .before .before in
     let x = start .args in
     let at = placed .before .before .loop in
-    walk-fits (x .desk) (x .recent .now) (start .pre .desk) (start .pre .context) (at .key) (at .weight) (at .found) (at .inv .0)
+    walk-fits (x .desk) (x .recent .now) (start .pre .desk) (start .pre .context) (at .key) (at .eights) (at .found) (at .inv .0)
 
 add-from : tie.Need-add-from Inv-loop μ-loop
 add-from c =
@@ -85,8 +85,8 @@ loop-again c =
     let x = start .args in
     let at = placed .before .before .loop in
     let on : at .found ≤ length (x .recent .now) = omega arith in (
-      walk-on (x .desk) (x .recent .now) (start .pre .desk) (start .pre .context) (at .key) (at .weight) (at .found) (at .inv .0) (c .longer .result) on (c .longer .ensures),
-      passed-on (x .desk) (x .recent .now) (x .n) (x .numbers .now) (start .pre) (at .places) (at .key) (at .weight) (at .from) (at .found) (at .inv .0) (at .inv .1) on
+      walk-on (x .desk) (x .recent .now) (start .pre .desk) (start .pre .context) (at .key) (at .eights) (at .found) (at .inv .0) (c .longer .result) on (c .longer .ensures),
+      passed-on (x .desk) (x .recent .now) (x .n) (x .numbers .now) (start .pre) (at .places) (at .key) (at .eights) (at .from) (at .found) (at .inv .0) (at .inv .1) on
           (inside placed) (placed .place-from .result) (placed .place-from .ensures) (sym (c .before .before .stands .ensures) ∙ not-false _ (c .before .if1 .left)),
     )
 
@@ -95,7 +95,7 @@ returns-2 c =
     let start = c .before .before .before .before in
     let x = start .args in
     let at = c .before .loop in
-    located-all (x .desk) (x .recent .now) (x .n) (x .numbers .now) (start .pre) (at .places) (at .key) (at .weight) (at .from) (at .found) (at .inv .0) (at .inv .1) (omega arith)
+    located-all (x .desk) (x .recent .now) (x .n) (x .numbers .now) (start .pre) (at .places) (at .key) (at .eights) (at .from) (at .found) (at .inv .0) (at .inv .1) (omega arith)
 
 pub seek-spec : {M : Type 1} → statement M
 seek-spec =

@@ -4,8 +4,8 @@ use mathlib.Core.Path.{_≡_, sym, _∙_}
 use Prim.Native.Nat.{_+_}
 use borrow.Author.Needs.{needs}
 use Rattle.numbers.specs.Every.{all}
-use Rattle.contexts.specs.Sitting.{first}
-use Rattle.store.specs.Layout.{deskStart, symbolsAt, slotsAt}
+use Rattle.contexts.specs.Sitting.{first, second}
+use Rattle.store.specs.Layout.{deskStart, symbolsAt, recentField, slotsAt}
 use Rattle.store.specs.Sound.{ofAlphabet}
 use Rattle.store.proofs.Desks.{slots-lent}
 use Rattle.soundness.proofs.slots_ok.Statement.{statement}
@@ -67,15 +67,15 @@ returns c =
     let s = c .before .before .before .before .before .before .before .args .store .now in
     let d = c .before .before .before .before .before .before .before .args .desk in
     let a = c .before .before .before .before .before .field-at in
-    let one : all (ofAlphabet (symbolsAt s d)) (slotsAt s d first) ≡ true = slots-lent s d (a .result) (deskStart d + 6) _ (a .ensures) (c .before .before .before .all-below .ensures) ∙ c .before .before .if1 .taken in
-    rw one (sym (slots-lent s d (a .result) (deskStart d + 12) _ (a .ensures) (c .all-below2 .ensures)))
+    let one : all (ofAlphabet (symbolsAt s d)) (slotsAt s d first) ≡ true = slots-lent s d (a .result) (deskStart d + recentField first) _ (a .ensures) (c .before .before .before .all-below .ensures) ∙ c .before .before .if1 .taken in
+    rw one (sym (slots-lent s d (a .result) (deskStart d + recentField second) _ (a .ensures) (c .all-below2 .ensures)))
 
 returns-2 : tie.Need-returns-2
 returns-2 c =
     let s = c .before .before .before .before .before .args .store .now in
     let d = c .before .before .before .before .before .args .desk in
     let a = c .before .before .before .field-at in
-    let one : all (ofAlphabet (symbolsAt s d)) (slotsAt s d first) ≡ false = slots-lent s d (a .result) (deskStart d + 6) _ (a .ensures) (c .before .all-below .ensures) ∙ c .if1 .left in
+    let one : all (ofAlphabet (symbolsAt s d)) (slotsAt s d first) ≡ false = slots-lent s d (a .result) (deskStart d + recentField first) _ (a .ensures) (c .before .all-below .ensures) ∙ c .if1 .left in
     rw one
 
 pub slots-ok-spec : {M : Type 1} → statement M

@@ -8,34 +8,34 @@ use Rattle.soundness.proofs.Loops.{round-le, round-le′}
 use Rattle.soundness.proofs.up_mark.Statement.{statement}
 use Rattle.soundness.proofs.up_mark.Tie as tie
 
-cast-weight-of : tie.Need-cast-weight-of
-cast-weight-of c = search needs
+cast-eights-of : tie.Need-cast-eights-of
+cast-eights-of c = search needs
 
-weight-of-requires : tie.Need-weight-of-requires
-weight-of-requires c κs = search needs
+eights-of-requires : tie.Need-eights-of-requires
+eights-of-requires c κs = search needs
 
 div-result : tie.Need-div-result
 div-result c = search needs
 
 mul-result : tie.Need-mul-result
-mul-result c = omega (arith, round-le′ (c .before .args .key) (c .weight-of .result))
+mul-result c = omega (arith, round-le′ (c .before .args .key) (c .eights-of .result))
 
 mul-result-2 : tie.Need-mul-result-2
-mul-result-2 c = omega (arith, round-le (c .before .args .key) (c .weight-of .result))
+mul-result-2 c = omega (arith, round-le (c .before .args .key) (c .eights-of .result))
 
 add-result : tie.Need-add-result
-add-result c = omega (arith, round-le (c .before .args .key) (c .weight-of .result))
+add-result c = omega (arith, round-le (c .before .args .key) (c .eights-of .result))
 
 returns : tie.Need-returns
 unfolding upMark
-returns c = ap (λ (w : ℕ). c .before .args .key / w / 8 * 8 * w + c .before .args .key % 8) (c .weight-of .ensures .0)
+returns c = ap (λ (w : ℕ). c .before .args .key / w / 8 * 8 * w + c .before .args .key % 8) (c .eights-of .ensures .0)
 
 pub up-mark-spec : {M : Type 1} → statement M
 up-mark-spec =
     tie.close
     (tie.spec
-    cast-weight-of
-    weight-of-requires
+    cast-eights-of
+    eights-of-requires
     div-result
     mul-result
     mul-result-2

@@ -8,11 +8,11 @@ use Rattle.logarithm.specs.Logarithm.{L}
 use Rattle.logarithm.proofs.Laws.{L-mono}
 
 -- each count's logarithm is at most the logarithm of any number that no count exceeds
-weights-most : (n t : ℕ) (c : ℕ → ℕ) → ((a : ℕ) → a < n → c a ≤ t) → sum n (λ a. c a * L (c a)) ≤ sum n c * L t
+terms-most : (n t : ℕ) (c : ℕ → ℕ) → ((a : ℕ) → a < n → c a ≤ t) → sum n (λ a. c a * L (c a)) ≤ sum n c * L t
 unfolding sum
-weights-most zero t c h = omega arith
-weights-most (suc n) t c h =
-    omega (arith, weights-most n t c (λ a l. h a (le-trans l (le-suc n))), mul-le-mul-left (c n) (L-mono (c n) t (h n (le-refl (suc n)))))
+terms-most zero t c h = omega arith
+terms-most (suc n) t c h =
+    omega (arith, terms-most n t c (λ a l. h a (le-trans l (le-suc n))), mul-le-mul-left (c n) (L-mono (c n) t (h n (le-refl (suc n)))))
 
-pub weights-le : (n : ℕ) (c : ℕ → ℕ) → sum n (λ a. c a * L (c a)) ≤ sum n c * L (sum n c)
-weights-le n c = weights-most n (sum n c) c (sum-part n c)
+pub terms-le : (n : ℕ) (c : ℕ → ℕ) → sum n (λ a. c a * L (c a)) ≤ sum n c * L (sum n c)
+terms-le n c = terms-most n (sum n c) c (sum-part n c)
