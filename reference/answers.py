@@ -16,7 +16,7 @@ class Room(NamedTuple):
 
 
 class Report(NamedTuple):
-    """The answer is the row count and the doubled score; the rows stand on the sheet."""
+    """The answer is the row count and the score; the rows stand on the sheet."""
 
     rows: int
     score: int

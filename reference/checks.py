@@ -6,16 +6,16 @@ the tally what it compared.
 
 from itertools import accumulate
 
-from reference.answers import Lost, Refused, Report, Salvaged, Shape, Written
+from reference.answers import Done, Lost, Refused, Report, Salvaged, Shape, Written
 from reference.contexts import children, strings_up_to
 from reference.counts import UNSEEN, N, counts_by_place, total
 from reference.difference import Difference, demand_equal
 from reference.estimate import Recursion, Scale, Sitting
-from reference.inputs import damaged_file, drawn_file, drawn_room, drawn_sample, drawn_sitting, drawn_values
-from reference.inputs import file_to_salvage, smaller_limit
-from reference.limits import ALPHABETS, BOTH_SAMPLES, COUNTS, DEPTHS, ROOMS, ROW, SAMPLES, store_length
+from reference.inputs import damaged_file, drawn_file, drawn_room, drawn_sample, drawn_sitting, drawn_values, drawn_weight
+from reference.inputs import file_to_salvage, smaller_limit, wrong_numbers
+from reference.limits import ALPHABETS, BOTH_SAMPLES, COUNTS, DEPTHS, DESKS, ROOMS, ROW, SAMPLES, WEIGHTS, store_length
 from reference.logarithm import L, follows_rule
-from reference.program import INPUT_BYTES
+from reference.program import INPUT_BYTES, WEIGHT
 from reference.replay import CLOSING_QUESTIONS, replay_of
 from reference.rows import estimate, rows_of
 from reference.salvage import losses_kind, output, salvage, shown
@@ -60,7 +60,7 @@ def check_counts(random, tally):
 def check_held(random, tally):
     """The contexts held and their counts, renewed feed by feed, against the strings with N(s) > 0 and their N(s,a)."""
     A, D = random.choice([(2, 6), (2, 4), (3, 3), (4, 2), (8, 1), (8, 0)])
-    sitting = OpenSitting(A, D, 4096)
+    sitting = OpenSitting(A, D, WEIGHT, 4096)
     for _ in range(random.choice([D, D + 1, random.randrange(50)])):
         sitting.feed(random.randrange(2), random.randrange(A))
     asked = sitting.value()
@@ -72,10 +72,10 @@ def check_held(random, tally):
 
 
 def check_enumeration(random, tally):
-    """The best of all admissible triples, by the tie rules, against the recursion's triple."""
-    sitting = drawn_sitting(random, ENUMERATED)
-    label = "enumeration against recursion: sittings"
-    compare_best(Scale(sitting), sitting, tally, label, whole=random.random() < 0.5)
+    """The best of all admissible triples, by the tie rules, against the recursion's triple. At weight 0 ties are frequent."""
+    sitting, weight = drawn_sitting(random, ENUMERATED), drawn_weight(random)
+    label = f"enumeration against recursion: sittings at {'a weight above 0' if weight else 'weight 0'}"
+    compare_best(Scale(sitting, weight), (sitting, weight), tally, label, whole=random.random() < 0.5)
 
 
 class DrawnScale:
@@ -115,23 +115,69 @@ def check_whole_tree(random, tally):
     """The recursion over every string up to D against the one that weighs unseen strings by length. Each place from D+1 on
     is counted in one row: that of the one context of its sample's tree that stands before it."""
     shapes = [(A, D) for A in ALPHABETS for D in DEPTHS if A**D <= WHOLE_TREE_STRINGS]
-    sitting = drawn_sitting(random, shapes)
-    scale = Scale(sitting)
+    sitting, weight = drawn_sitting(random, shapes), drawn_weight(random)
+    scale = Scale(sitting, weight)
     rows = [rows_of(scale, Recursion(scale, whole).triple()) for whole in (True, False)]
-    demand_equal("whole tree", sitting, every_string=rows[0], unseen_by_length=rows[1])
+    demand_equal("whole tree", (sitting, weight), every_string=rows[0], unseen_by_length=rows[1])
     places = sum(len(range(sitting.D, len(sample))) for sample in sitting.samples)
     demand_equal("places counted", sitting, rule=places, rows=sum(sum(row[3:]) for row in rows[1]))
     tally["whole tree against unseen strings by length: sittings", ""] += 1
 
 
-def reported_by_counts(sitting, room):
+def fit_and_penalty(sitting, rows):
+    """From a report's rows alone: their fits together, and what they cost for each quarter of the weight."""
+    n, m = map(len, sitting.samples)
+    fit = sum(8 * (sum(c * L(c) for c in counts) - sum(counts) * L(sum(counts))) for _, _, _, *counts in rows)
+    return fit, sum((sitting.A - 1) * L([n + m, n, m][kind]) for kind, *_ in rows)
+
+
+def check_weights(random, tally):
+    """One sitting at several weights: each report's score is that of its own rows, and at its weight the rows of no other
+    report score more."""
+    sitting = drawn_sitting(random)
+    weights = sorted({WEIGHTS[0], WEIGHT, WEIGHTS[-1], *random.sample(WEIGHTS, 2)})
+    seen = [counts_by_place(sample, sitting.D) for sample in sitting.samples]
+    reports = {weight: estimate(sitting, weight, seen) for weight in weights}
+    told = {weight: fit_and_penalty(sitting, rows) for weight, (rows, _) in reports.items()}
+    for weight in weights:
+        scores = {other: fit - weight * penalty for other, (fit, penalty) in told.items()}
+        asked = sitting, f"at weight {weight}"
+        demand_equal("score", asked, told=reports[weight][1], of_its_rows=scores[weight], best_of_reports=max(scores.values()))
+    for less, more in zip(weights, weights[1:]):
+        same = reports[less][0] == reports[more][0]
+        tally["weights: reports of one sitting at two of them", "the same rows" if same else "other rows"] += 1
+
+
+def check_opening(random, tally):
+    """Of an opening's numbers the first from the left that is wrong decides the refusal, whatever the others are: so 5 goes
+    before 20, and 20 before 6. A refused opening changes nothing."""
+    K = random.choice([2, random.choice(ROOMS[1:]), ROOMS[-1]])
+    store = Store()
+    store.make(K, store_length(K))
+    store.open(DESKS[0], 2, 1, WEIGHT, random.randrange(1, K))
+    left = store.room_left()
+    good = [random.choice(DESKS[1:]), random.choice(ALPHABETS), random.choice(DEPTHS), drawn_weight(random)]
+    numbers = [(number, None) for number in [*good, random.randrange(1, left + 1)]]
+    wrong = [[(DESKS[0], 3), (DESKS[-1] + 1, 2)], *wrong_numbers(K, left)]
+    for place in random.sample(range(5), random.choice([0, 1, 2, 2, 3])):
+        numbers[place] = random.choice(wrong[place])
+    opening, refusals = zip(*numbers)
+    before = desks_of(store)
+    refusal = next((refusal for refusal in refusals if refusal), None)
+    asked = opening, f"K {K}, room left {left}"
+    demand_equal("opening", asked, first_wrong=Refused(refusal) if refusal else Done(), store=store.open(*opening))
+    demand_equal("nothing changed", asked, rule=bool(refusal), store=desks_of(store) == before)
+    tally["openings, by the first number that is wrong", f"refused {refusal}" if refusal else "done"] += 1
+
+
+def reported_by_counts(sitting, weight, room):
     """What a report answers where the sheet has room for so many rows, by what is counted: 24 where a sample has symbols and
     no context has seen one of them."""
     if () in sitting.samples:
         return Refused(11)
     if {} in [counts_by_place(sample, sitting.D) for sample in sitting.samples]:
         return Refused(24)
-    rows, score = estimate(sitting)
+    rows, score = estimate(sitting, weight)
     return Report(len(rows), score) if len(rows) <= room else Refused(12)
 
 
@@ -140,19 +186,20 @@ def check_short(random, tally):
     report leaves the sheet."""
     A, D = random.choice(ALPHABETS), random.choice(DEPTHS)
     lengths = [random.choice([0, 1, D, D + 1, D + 1, D + 1, D + 2]) for _ in SAMPLES]
-    sitting = Sitting(A, D, tuple(drawn_sample(random, A, length) for length in lengths))
+    sitting, weight = Sitting(A, D, tuple(drawn_sample(random, A, length) for length in lengths)), drawn_weight(random)
     store = Store()
     store.make(ROOMS[-1], store_length(ROOMS[-1]))
-    store.open(0, A, D, ROOMS[-1])
+    store.open(0, A, D, weight, ROOMS[-1])
     for sample, symbols in enumerate(sitting.samples):
         for symbol in symbols:
             store.feed(0, sample, symbol)
-    room = len(estimate(sitting)[0]) + random.choice([-1, 0, 0, 1])
+    room = len(estimate(sitting, weight)[0]) + random.choice([-1, 0, 0, 1])
     sheet = [BLANK_SHEET] * (ROW * room)
     answer = store.report(0, sheet, 0)
-    demand_equal("report", (sitting, room), by_counts=reported_by_counts(sitting, room), by_lengths=answer)
+    asked = sitting, weight, room
+    demand_equal("report", asked, by_counts=reported_by_counts(*asked), by_lengths=answer)
     refused = isinstance(answer, Refused)
-    demand_equal("sheet", (sitting, room), rule=refused, left=sheet == [BLANK_SHEET] * (ROW * room))
+    demand_equal("sheet", asked, rule=refused, left=sheet == [BLANK_SHEET] * (ROW * room))
     tally["reports of samples around the depth, by what is counted", f"refused {answer.number}" if refused else "answered"] += 1
 
 
@@ -354,7 +401,7 @@ def check_replay(random, tally):
 
 
 def desks_of(store):
-    return [sitting and (sitting.reservation, sitting.value()) for sitting in store.desks]
+    return [sitting and (sitting.weight, sitting.reservation, sitting.value()) for sitting in store.desks]
 
 
 # How many of each are drawn in a round.
@@ -365,6 +412,8 @@ CHECKS = [
     (check_enumeration, 10),
     (check_ties, 10),
     (check_whole_tree, 3),
+    (check_weights, 3),
+    (check_opening, 20),
     (check_short, 10),
     (check_written, 10),
     (check_damaged, 30),

@@ -1,4 +1,4 @@
-"""Document 01, "Counts and score": fit, cost, score, and the recursion with the tie rules.
+"""Document 01, "Counts and score", and request E5: fit, cost, score, and the recursion with the tie rules.
 
 Kinds of contexts are those of the report's rows: 0 shared, 1 first's own, 2 second's own.
 """
@@ -17,7 +17,8 @@ LEAF, SPLIT = range(2)
 
 
 class Sitting(NamedTuple):
-    """What a report speaks of: the alphabet size, the depth and the two samples."""
+    """What a report speaks of: the alphabet size, the depth and the two samples. The weight that it is scored with is named
+    at the opening, and no file has one."""
 
     A: int
     D: int
@@ -33,19 +34,21 @@ class Triple(NamedTuple):
 
 
 def fit(counts):
-    """2 times (sum of c·L(c), less t·L(t)); an unseen context has fit 0."""
+    """8 times (sum of c·L(c), less t·L(t)); an unseen context has fit 0."""
     t = sum(counts)
-    return 2 * (sum(c * L(c) for c in counts) - t * L(t))
+    return 8 * (sum(c * L(c) for c in counts) - t * L(t))
 
 
 class Scale:
-    """Fits, costs and scores over the counts of one sitting, which are taken from its samples where none are given."""
+    """Fits, costs and scores over the counts of one sitting, which are taken from its samples where none are given. A context
+    costs weight·(A-1)·L(n+m) where it is shared, and where it is one sample's own the same of L(n) or L(m)."""
 
-    def __init__(self, sitting, seen=None):
+    def __init__(self, sitting, weight, seen=None):
         self.A, self.D = sitting.A, sitting.D
         self.seen = seen or [counts_by_place(sample, sitting.D) for sample in sitting.samples]
         n, m = map(len, sitting.samples)
-        self.costs = {kind: (self.A - 1) * L(length) for kind, length in ((SHARED, n + m), (FIRST, n), (SECOND, m))}
+        lengths = {SHARED: n + m, FIRST: n, SECOND: m}
+        self.costs = {kind: weight * (self.A - 1) * L(lengths[kind]) for kind in KINDS}
 
     def counts(self, kind, s):
         """A shared context has the added counts, an own one those of its sample."""

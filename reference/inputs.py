@@ -4,8 +4,9 @@ drawn from the `random` given, so a seed fixes it."""
 from pathlib import Path
 
 from reference.estimate import Sitting
-from reference.limits import ALPHABETS, DEPTHS, SAMPLE_LIMIT
-from reference.program import INPUT_BYTES
+from reference.limits import ALPHABETS, DEPTHS, SAMPLE_LIMIT, WEIGHTS
+from reference.program import INPUT_BYTES, WEIGHT
+from reference.script import LARGEST
 from reference.sitting_file import number_bytes, write
 
 SAMPLES = Path(__file__).resolve().parents[1] / "samples"
@@ -16,8 +17,8 @@ LENGTHS += [(range(400, SAMPLE_LIMIT), 2), (range(SAMPLE_LIMIT - 2, SAMPLE_LIMIT
 
 
 def weighted(random, choices):
-    """One of the choices, each with its weight beside it."""
-    return random.choices([choice for choice, _ in choices], [weight for _, weight in choices])[0]
+    """One of the choices, each with how often it is drawn beside it."""
+    return random.choices([choice for choice, _ in choices], [often for _, often in choices])[0]
 
 
 def drawn_length(random):
@@ -95,6 +96,22 @@ def drawn_pair(random, A):
         both = drawn_sample(random, A, 2 * len(first))
         return both[: len(first)], both[len(first) :]
     return first, drawn_sample(random, A, drawn_length(random))
+
+
+def drawn_weight(random):
+    """A weight within its limits: often none, the plain one and the greatest, else any."""
+    return weighted(random, [(0, 3), (WEIGHT, 4), (WEIGHTS[-1], 2), (random.choice(WEIGHTS), 5)])
+
+
+def wrong_numbers(K, left):
+    """What an opening refuses in the place of A, of D, of the weight and of the reservation, each with its refusal, where
+    there is room left for so many of K contexts. Among the weights are some whose last 8 or 16 bits are within limits."""
+    return [
+        [(0, 5), (ALPHABETS[0] - 1, 5), (ALPHABETS[-1] + 1, 5), (LARGEST, 5)],
+        [(DEPTHS[-1] + 1, 5), (LARGEST, 5)],
+        [(WEIGHTS[-1] + 1, 20), (2**8, 20), (2**16 + WEIGHT, 20), (LARGEST, 20)],
+        [(0, 6), (K + 1, 6), (LARGEST, 6), (left + 1, 7 if left < K else 6)],
+    ]
 
 
 def drawn_sitting(random, shapes=None):

@@ -1,7 +1,8 @@
-"""The limits of document 01 and of request E2, each named once."""
+"""The limits of document 01 and of requests E2 and E5, each named once."""
 
 ALPHABETS = range(2, 9)  # alphabet size A from 2 to 8
 DEPTHS = range(0, 7)  # depth D from 0 to 6
+WEIGHTS = range(0, 17)  # weight on the penalty, 0 to 16 quarters
 SAMPLES = range(0, 2)  # a sitting's two samples
 SAMPLE_LIMIT = 2048  # each sample holds 0 to 2,048 symbols
 BOTH_SAMPLES = 2 * SAMPLE_LIMIT  # what both hold at most: L is asked up to it

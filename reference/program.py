@@ -1,4 +1,4 @@
-"""Document 01, "Sitting file and program": what the program prints.
+"""Document 01, "Sitting file and program": what the program prints, with the weight of request E5.
 
     python3 -m reference.program < FILE
 """
@@ -14,6 +14,7 @@ from reference.store import Store
 INPUT_BYTES = 4608
 STORE_NUMBERS = 8192
 K = 256
+WEIGHT = 4  # quarters: the plain penalty
 COMMAND = "python3 -m reference.program"
 
 
@@ -42,9 +43,9 @@ def answer_lines(file):
 
 
 def played(store, shape, samples):
-    """Makes the store, opens desk 0 with r 256, feeds the first sample and then the second."""
+    """Makes the store, opens desk 0 at weight 4 with r 256, feeds the first sample and then the second."""
     yield store.make(K, STORE_NUMBERS)
-    yield store.open(0, shape.A, shape.D, K)
+    yield store.open(0, shape.A, shape.D, WEIGHT, K)
     for sample, symbols in enumerate(samples):
         for symbol in symbols:
             yield store.feed(0, sample, symbol)
@@ -55,7 +56,7 @@ def refused_line(refused):
 
 
 def report_lines(shape, report, sheet):
-    """A line with A, D, n, m, row count, doubled score; then a line for each row with kind,
+    """A line with A, D, n, m, row count, score; then a line for each row with kind,
     length, code and A counts."""
     rows = [sheet[ROW * row : ROW * row + 3 + shape.A] for row in range(report.rows)]
     return [" ".join(map(str, numbers)) for numbers in [[*shape, *report], *rows]]

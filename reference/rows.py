@@ -11,8 +11,8 @@ def rows_of(scale, triple):
     return [(kind, len(s), code(s)) + scale.counts(kind, s) for _, kind, s in contexts]
 
 
-def estimate(sitting, seen=None):
-    """The rows and the doubled score of a sitting's joint estimate; `seen` are its counts where they are known."""
-    scale = Scale(sitting, seen)
+def estimate(sitting, weight, seen=None):
+    """The rows and the score of a sitting's joint estimate at that weight; `seen` are its counts where they are known."""
+    scale = Scale(sitting, weight, seen)
     triple = Recursion(scale).triple()
     return rows_of(scale, triple), scale.score(triple)

@@ -16,7 +16,7 @@ from reference.store import Store
 # Each call's name at its opcode, and the numbers that follow it.
 CALLS = {
     0: ("make", ("K", "LEN")),
-    1: ("open", ("DESK", "A", "D", "R")),
+    1: ("open", ("DESK", "A", "D", "W", "R")),
     2: ("feed", ("DESK", "SAMPLE", "SYMBOL")),
     3: ("close", ("DESK",)),
     4: ("room", ()),

@@ -1,30 +1,30 @@
-"""Document 01, "Desks and the store": the store as an abstract machine.
+"""Document 01, "Desks and the store", and requests E5 and E8: the store as an abstract machine.
 
 Each call asks for its refusals in the order given, so that the first that applies is given, and
-changes nothing before the last of them. The order is that of the numbers, but for 24, which comes
-after 11 and before 12. Refusal 1 is about the numbers of a store, which are not modelled: it is
-given exactly where no making was accepted yet.
+changes nothing before the last of them. The order is that of the numbers, but for two: 20 comes
+after 5 and before 6, and 24 after 11 and before 12. Refusal 1 is about the numbers of a store,
+which are not modelled: it is given exactly where no making was accepted yet.
 """
 
 from reference.answers import Both, Done, First, Neither, Refused, Report, Room, Second
 from reference.contexts import string_of
 from reference.counts import N, contexts_at, count_place, total
 from reference.estimate import Sitting
-from reference.limits import ALPHABETS, DEPTHS, DESKS, ROOMS, ROW, SAMPLE_LIMIT, SAMPLES, store_length
+from reference.limits import ALPHABETS, DEPTHS, DESKS, ROOMS, ROW, SAMPLE_LIMIT, SAMPLES, WEIGHTS, store_length
 from reference.rows import estimate
 
 
 class OpenSitting:
-    """An open desk: A, D, its reservation and two strings of symbols, both empty at first."""
+    """An open desk: A, D, its weight and reservation, and two strings of symbols, both empty at first."""
 
-    def __init__(self, A, D, reservation):
-        self.A, self.D, self.reservation = A, D, reservation
+    def __init__(self, A, D, weight, reservation):
+        self.A, self.D, self.weight, self.reservation = A, D, weight, reservation
         self.samples = ([], [])
         self.held = set()
         self.seen = ({}, {})
 
     def value(self):
-        """The sitting as a report sees it."""
+        """The sitting as a file has it: A, D and the two strings."""
         return Sitting(self.A, self.D, tuple(map(tuple, self.samples)))
 
     def held_with(self, sample, symbol):
@@ -46,7 +46,7 @@ class OpenSitting:
 
     def estimate(self):
         """The rows and the score of its report."""
-        return estimate(self.value(), self.seen)
+        return estimate(self.value(), self.weight, self.seen)
 
     def share(self, sample, s, a):
         """N(s,a) / N(s), one division of exact whole numbers; None where the sample did not see s."""
@@ -75,8 +75,8 @@ class Store:
         self.desks = [None for _ in DESKS]
         return Done()
 
-    def open(self, desk, A, D, reservation):
-        """Opening a desk names A, D and a reservation."""
+    def open(self, desk, A, D, weight, reservation):
+        """Opening a desk names A, D, a weight and a reservation."""
         if self.K is None:
             return Refused(1)
         if desk not in DESKS:
@@ -85,11 +85,13 @@ class Store:
             return Refused(3)
         if A not in ALPHABETS or D not in DEPTHS:
             return Refused(5)
+        if weight not in WEIGHTS:
+            return Refused(20)
         if not 0 < reservation <= self.K:
             return Refused(6)
         if reservation > self.room_left():
             return Refused(7)
-        self.desks[desk] = OpenSitting(A, D, reservation)
+        self.desks[desk] = OpenSitting(A, D, weight, reservation)
         return Done()
 
     def feed(self, desk, sample, symbol):

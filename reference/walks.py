@@ -1,13 +1,13 @@
 """Random walks of store calls over eight desks, played as they are drawn."""
 
 from reference.contexts import code
-from reference.inputs import drawn_length, drawn_sample, weighted
-from reference.limits import ALPHABETS, DEPTHS, DESKS, ROOMS, ROW, SAMPLE_LIMIT, SAMPLES, SHEET_ROWS, store_length
+from reference.inputs import drawn_length, drawn_sample, drawn_weight, weighted, wrong_numbers
+from reference.limits import ALPHABETS, DEPTHS, DESKS, ROOMS, ROW, SAMPLE_LIMIT, SAMPLES, SHEET_ROWS, WEIGHTS, store_length
 from reference.script import FEEDALL_SYMBOLS, LARGEST, SHEET_NUMBERS, STORE_NUMBERS, Player, call
 
 # Numbers at and beyond the limits, put in the place of good ones.
 ODD_NUMBERS = [0, 1, 2, 3, 6, 7, 8, 9, 10, 63, 64, 255, 256, 65536, 2**31, LARGEST]
-ODD_NUMBERS += [limit + more for limit in (SHEET_ROWS, SAMPLE_LIMIT, ROOMS[-1]) for more in (0, 1)]
+ODD_NUMBERS += [limit + more for limit in (WEIGHTS[-1], SHEET_ROWS, SAMPLE_LIMIT, ROOMS[-1]) for more in (0, 1)]
 
 
 class Walk:
@@ -66,8 +66,19 @@ def open_desk(walk):
     closed = [desk for desk in DESKS if not walk.store.desks[desk]]
     desk = walk.some_desk(closed if random.random() < 0.9 else DESKS)
     A, D = walk.odd(random.choice(ALPHABETS)), walk.odd(random.choice(DEPTHS))
-    walk.play("open", desk, A, D, drawn_reservation(walk))
+    walk.play("open", desk, A, D, walk.odd(drawn_weight(random)), drawn_reservation(walk))
     walk.waiting.pop(desk, None)
+
+
+def wrong_opening(walk):
+    """One or several numbers that an opening refuses, mostly at a desk that is closed: 5, 20, 6 and 7 beside each other."""
+    random = walk.random
+    numbers = [random.choice(ALPHABETS), random.choice(DEPTHS), drawn_weight(random), 1]
+    wrong = wrong_numbers(walk.store.K, walk.store.room_left())
+    for place in random.sample(range(4), random.randrange(1, 5)):
+        numbers[place] = random.choice(wrong[place])[0]
+    desk = walk.some_desk(desk for desk in DESKS if not walk.store.desks[desk])
+    walk.play("open", desk, *numbers)
 
 
 def drawn_reservation(walk):
@@ -180,6 +191,7 @@ def wrong_context(walk):
 
 ACTS = [
     (open_desk, 10),
+    (wrong_opening, 2),
     (feed, 6),
     (feed_all, 26),
     (feed_past_limit, 1),
@@ -213,7 +225,7 @@ def play_some(walk, acts):
 
 def play_unmade(walk):
     """Every call on a store that was not made: all zeros."""
-    walk.play("open", 0, 2, 1, 3)
+    walk.play("open", 0, 2, 1, 4, 3)
     walk.play("feed", 9, 0, 0)
     walk.play("close", 0)
     walk.play("room")
@@ -223,17 +235,18 @@ def play_unmade(walk):
 
 
 def every_length():
-    """One symbol again and again at depth 0, with a report after each feed: the scores show L(n+m) for every n+m
-    from 4 to 4,096. A script has room for half of them, so that a second walk goes on where the first ends."""
+    """One symbol again and again at depth 0, with a report after each feed: the scores show weight·L(n+m) for every n+m
+    from 4 to 4,096. A script has room for half of them, so that a second walk goes on where the first ends. The first has
+    weight 1, the second the greatest."""
     half = SAMPLE_LIMIT // 2
-    return [lengths_between(0, half), lengths_between(half, SAMPLE_LIMIT)]
+    return [lengths_between(0, half, weight=1), lengths_between(half, SAMPLE_LIMIT, weight=WEIGHTS[-1])]
 
 
-def lengths_between(begin, end):
+def lengths_between(begin, end, weight):
     """Both samples from so many symbols on, up to so many."""
     walk = Walk(random=None)
     walk.play("make", 1, store_length(1))
-    walk.play("open", 0, 2, 0, 1)
+    walk.play("open", 0, 2, 0, weight, 1)
     for sample in SAMPLES:
         walk.play("feedall", 0, sample, *[0] * begin)
     for _ in range(begin, end):

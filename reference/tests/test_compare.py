@@ -11,15 +11,17 @@ from pathlib import Path
 from random import Random
 from unittest.mock import patch
 
-from reference import checks, counts, salvage, sitting_file, store
-from reference.answers import Lost, Refused, Shape, Written
+from reference import checks, counts, estimate, salvage, sitting_file, store
+from reference.answers import Done, Lost, Refused, Shape, Written
 from reference.built import NOT_WRITTEN, BuiltSalvage
-from reference.checks import CHECKS, check_counts, check_held, check_longer_input, check_salvage, check_saved
-from reference.checks import check_short, check_smaller_limit, check_sound, header_by_forms
+from reference.checks import CHECKS, check_counts, check_enumeration, check_held, check_longer_input, check_opening
+from reference.checks import check_replay, check_salvage, check_saved, check_short, check_smaller_limit, check_sound
+from reference.checks import check_weights, header_by_forms
 from reference.counts import before, contexts_at
 from reference.difference import Difference
-from reference.inputs import drawn_file, drawn_sitting, fixed_damages
-from reference.limits import ALPHABETS, DEPTHS, SAMPLE_LIMIT, SAMPLES
+from reference.estimate import fit
+from reference.inputs import drawn_file, drawn_sitting, drawn_weight, fixed_damages
+from reference.limits import ALPHABETS, DEPTHS, SAMPLE_LIMIT, SAMPLES, WEIGHTS
 from reference.program import INPUT_BYTES
 from reference.replay import accepted, by_sitting, replay_of
 from reference.salvage import losses
@@ -315,6 +317,74 @@ def refused_after_writing(made, desk, sheet, place):
     return answer
 
 
+opened = store.Store.open
+
+
+def before_5(made, desk, A, D, weight, reservation):
+    """A wrong weight goes before a wrong alphabet or depth."""
+    answer = opened(made, desk, A, D, weight, reservation)
+    return Refused(20) if answer == Refused(5) and weight not in WEIGHTS else answer
+
+
+def after_6(made, desk, A, D, weight, reservation):
+    """A wrong reservation goes before a wrong weight."""
+    right = min(weight, WEIGHTS[-1])
+    answer = opened(made, desk, A, D, weight, reservation)
+    again = opened(made, desk, A, D, right, reservation) if answer == Refused(20) else answer
+    return again if again == Refused(6) else answer
+
+
+def cut_to_16(made, desk, A, D, weight, reservation):
+    """A greater weight is taken for the greatest."""
+    return opened(made, desk, A, D, min(weight, WEIGHTS[-1]), reservation)
+
+
+def eight_bits(made, desk, A, D, weight, reservation):
+    return opened(made, desk, A, D, weight % 2**8, reservation)
+
+
+def refused_after_opening(made, desk, A, D, weight, reservation):
+    """The desk is opened all the same."""
+    answer = opened(made, desk, A, D, weight, reservation)
+    if answer == Refused(20):
+        opened(made, desk, A, D, WEIGHTS[-1], reservation)
+    return answer
+
+
+def one_weight_for_all(made, desk, A, D, weight, reservation):
+    """An opening's weight becomes that of every open desk."""
+    answer = opened(made, desk, A, D, weight, reservation)
+    if answer == Done():
+        for sitting in filter(None, made.desks):
+            sitting.weight = weight
+    return answer
+
+
+WRONG_OPENINGS = [before_5, after_6, cut_to_16, eight_bits, refused_after_opening]
+
+scaled = estimate.Scale.__init__
+
+
+def at_weight(change):
+    """A scale over another weight than the one that is named."""
+    return lambda scale, sitting, weight, seen=None: scaled(scale, sitting, change(weight), seen)
+
+
+def cheaply_shared(scale, sitting, weight, seen=None):
+    """A shared context costs half of what it should."""
+    scaled(scale, sitting, weight, seen)
+    scale.costs[estimate.SHARED] //= 2
+
+
+WRONG_SCALES = {
+    "the plain penalty at every weight": at_weight(lambda weight: 4),
+    "no weight below one quarter": at_weight(lambda weight: max(weight, 1)),
+    "no weight above fifteen quarters": at_weight(lambda weight: min(weight, 15)),
+    "a whole penalty for each quarter": at_weight(lambda weight: 4 * weight),
+    "shared contexts at half their cost": cheaply_shared,
+}
+
+
 class Checks(unittest.TestCase):
     def test_each_draws_and_compares(self):
         for check, _ in CHECKS:
@@ -358,6 +428,50 @@ class Checks(unittest.TestCase):
                 for seed in range(200):
                     check_short(Random(seed), Counter())
 
+    def test_other_openings_are_found(self):
+        for wrong in WRONG_OPENINGS:
+            with self.subTest(wrong.__name__), patch.object(store.Store, "open", wrong), self.assertRaises(Difference):
+                for seed in range(200):
+                    check_opening(Random(seed), Counter())
+
+    def test_other_limits_of_the_weight_are_found(self):
+        for limits in (range(16), range(1, 17), range(18)):
+            with self.subTest(limits), patch.object(store, "WEIGHTS", limits), self.assertRaises(Difference):
+                for seed in range(200):
+                    check_opening(Random(seed), Counter())
+
+    def test_other_costs_and_fits_are_found(self):
+        wrong = {name: patch.object(estimate.Scale, "__init__", scale) for name, scale in WRONG_SCALES.items()}
+        wrong["a fit four times too small"] = patch.object(estimate, "fit", lambda counts: fit(counts) // 4)
+        for name, definition in wrong.items():
+            with self.subTest(name), definition, self.assertRaises(Difference):
+                for seed in range(30):
+                    check_weights(Random(seed), Counter())
+
+    def test_other_ties_are_found_where_nothing_costs(self):
+        """The last of the best choices in the place of the first."""
+
+        def last_best(scores):
+            best = max(scores)
+            return best, len(scores) - 1 - scores[::-1].index(best)
+
+        nothing_costs = patch.object(checks, "drawn_weight", lambda random: 0)
+        with nothing_costs, patch.object(estimate, "first_best", last_best), self.assertRaises(Difference):
+            for seed in range(20):
+                check_enumeration(Random(seed), Counter())
+
+    def test_a_weight_that_is_not_the_sittings_own_is_found(self):
+        """A walk is played again sitting by sitting, and each report must find the weight of its opening."""
+        with patch.object(store.Store, "open", one_weight_for_all), self.assertRaises(Difference):
+            for seed in range(20):
+                check_replay(Random(seed), Counter())
+
+    def test_all_weights_are_drawn(self):
+        random = Random("weights")
+        drawn = Counter(drawn_weight(random) for _ in range(1000))
+        self.assertEqual(set(drawn), set(range(17)))
+        self.assertGreater(min(drawn[weight] for weight in (0, 4, 16)), 100, drawn)
+
     def test_counts_not_renewed_by_a_feed_are_found(self):
         with patch.object(store, "count_place", lambda *_: None), self.assertRaises(Difference):
             for seed in range(20):
@@ -390,13 +504,14 @@ class Replay(unittest.TestCase):
     def test_refused_calls_and_room_questions_are_struck_out(self):
         steps = [
             (call("room"), ["room 3"]),
-            (call("open", 0, 2, 1, 9), ["refused 7"]),
-            (call("open", 0, 2, 1, 3), ["done"]),
+            (call("open", 0, 2, 1, 17, 3), ["refused 20"]),
+            (call("open", 0, 2, 1, 16, 9), ["refused 7"]),
+            (call("open", 0, 2, 1, 16, 3), ["done"]),
             (call("feedall", 0, 0, 0, 1, 0), ["fed 2 refused 10"]),
             (call("feedall", 1, 0, 0), ["fed 0 refused 4"]),
             (call("report", 0, 22, 0), ["refused 24"]),
         ]
-        kept = [(call("open", 0, 2, 1, 3), ["done"]), (call("feedall", 0, 0, 0, 1), ["fed 2 whole"])]
+        kept = [(call("open", 0, 2, 1, 16, 3), ["done"]), (call("feedall", 0, 0, 0, 1), ["fed 2 whole"])]
         self.assertEqual(accepted(steps), kept)
 
     def test_one_sitting_after_another(self):

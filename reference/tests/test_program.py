@@ -16,7 +16,7 @@ from reference.sitting_file import read, samples_of, write
 from reference.store import Store
 
 EXAMPLE = bytes.fromhex("02 01 08 08 00 01 00 01 00 01 00 01 00 00 01 00 00 01 00 00")
-PRINTED = "2 1 8 8 3 -20176\n1 1 0 0 4\n2 1 0 3 2\n0 1 1 5 0\n"
+PRINTED = "2 1 8 8 3 -80704\n1 1 0 0 4\n2 1 0 3 2\n0 1 1 5 0\n"
 
 
 def refused_feed(file):
@@ -101,7 +101,7 @@ class Program(unittest.TestCase):
     def test_longer_input_shows_a_fault(self):
         self.assertEqual(output(EXAMPLE + bytes(5000)), "refused 16\n")
         longest = write(2, 0, (0,) * 2048, (1,) * 2048)
-        self.assertEqual(output(longest), "2 0 2048 2048 2 -22528\n1 0 0 2048 0\n2 0 0 0 2048\n")
+        self.assertEqual(output(longest), "2 0 2048 2048 2 -90112\n1 0 0 2048 0\n2 0 0 0 2048\n")
         for more in (505, 506, 507):
             self.assertEqual(output(longest + bytes(more)), "refused 16\n")
 

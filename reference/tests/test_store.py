@@ -1,4 +1,4 @@
-"""Refusals 1 to 12, 17, 18 and 24, the sheet and the chart."""
+"""Refusals 1 to 12, 17, 18, 20 and 24, the weight, the sheet and the chart."""
 
 import unittest
 from fractions import Fraction
@@ -13,7 +13,7 @@ def store_with(K=100, **desk):
     """A made store, with desk 0 open."""
     store = Store()
     store.make(K, 2048 + 24 * K)
-    opening = {"A": 2, "D": 1, "reservation": 10, **desk}
+    opening = {"A": 2, "D": 1, "weight": 4, "reservation": 10, **desk}
     store.open(0, **opening)
     return store
 
@@ -25,27 +25,39 @@ def feed_all(store, sample, symbols, desk=0):
 class Refusals(unittest.TestCase):
     def test_1_where_nothing_was_made(self):
         store = Store()
-        calls = [store.open(9, 9, 9, 0), store.feed(9, 9, 9), store.close(9), store.room()]
+        calls = [store.open(9, 9, 9, 17, 0), store.feed(9, 9, 9), store.close(9), store.room()]
         calls += [store.report(9, [], 0), store.chart(9, 9, 9, 9)]
         self.assertEqual(calls, [Refused(1)] * 6)
 
     def test_2_desk_above_seven(self):
         store = store_with()
-        calls = [store.open(8, 9, 9, 0), store.feed(8, 9, 9), store.close(8), store.report(8, [], 0)]
+        calls = [store.open(8, 9, 9, 17, 0), store.feed(8, 9, 9), store.close(8), store.report(8, [], 0)]
         self.assertEqual(calls + [store.chart(8, 9, 9, 9)], [Refused(2)] * 5)
 
     def test_3_and_4(self):
         store = store_with()
-        self.assertEqual(store.open(0, 9, 9, 0), Refused(3))
+        self.assertEqual(store.open(0, 9, 9, 17, 0), Refused(3))
         calls = [store.feed(1, 9, 9), store.close(1), store.report(1, [], 0), store.chart(1, 9, 9, 9)]
         self.assertEqual(calls, [Refused(4)] * 4)
 
-    def test_5_6_7_in_order(self):
-        store = store_with(K=12, reservation=5)
-        self.assertEqual([store.open(1, A, 0, 0) for A in (0, 1, 9)], [Refused(5)] * 3)
-        self.assertEqual(store.open(1, 8, 7, 99), Refused(5))
-        self.assertEqual([store.open(1, 8, 6, r) for r in (0, 13, 8)], [Refused(6), Refused(6), Refused(7)])
-        self.assertEqual(store.open(1, 8, 6, 7), Done())
+    def test_5_20_6_7_in_order(self):
+        """Room is left for 7 of 12 contexts. Whatever the others are, the first of the four that applies is given."""
+        alphabets = {0: 5, 1: 5, 2: 0, 8: 0, 9: 5}
+        depths = {0: 0, 6: 0, 7: 5}
+        weights = {0: 0, 4: 0, 16: 0, 17: 20, 256: 20, 2**32 - 1: 20}
+        reservations = {0: 6, 1: 0, 7: 0, 8: 7, 12: 7, 13: 6}
+        for numbers in product(alphabets, depths, weights, reservations):
+            store = store_with(K=12, reservation=5)
+            applying = [of[number] for of, number in zip((alphabets, depths, weights, reservations), numbers)]
+            first = next(filter(None, applying), None)
+            self.assertEqual(store.open(1, *numbers), Refused(first) if first else Done(), numbers)
+            self.assertEqual((store.desks[1] is None, store.room()), (bool(first), Room(7 if first else 7 - numbers[3])))
+
+    def test_20_at_an_opening_alone(self):
+        """At a desk that cannot be opened it is not asked."""
+        store = store_with()
+        self.assertEqual([store.open(desk, 2, 1, 17, 1) for desk in (8, 0, 1)], [Refused(2), Refused(3), Refused(20)])
+        self.assertEqual(Store().open(1, 2, 1, 17, 1), Refused(1))
 
     def test_8_at_a_feed(self):
         store = store_with()
@@ -159,10 +171,51 @@ class Refusals(unittest.TestCase):
         store = Store()
         store.make(12, 2336)
         for desk in range(3):
-            store.open(desk, 2, 1, 4)
+            store.open(desk, 2, 1, 4, 4)
         store.close(0)
         store.close(2)
-        self.assertEqual([store.open(5, 2, 1, 9), store.open(5, 2, 1, 8)], [Refused(7), Done()])
+        self.assertEqual([store.open(5, 2, 1, 4, 9), store.open(5, 2, 1, 4, 8)], [Refused(7), Done()])
+
+
+class Weight(unittest.TestCase):
+    """The weight is the sitting's from its opening to its closing, and only reports know it."""
+
+    def test_each_desk_reports_by_its_own(self):
+        """J1 at three desks, fed by turns; the scores are those that test_marked works out."""
+        store = store_with(weight=0)
+        store.open(1, 2, 1, 4, 10)
+        store.open(2, 2, 1, 16, 10)
+        for sample, symbol in product((0, 1), "0101"):
+            for desk in range(3):
+                feed_all(store, sample, symbol, desk)
+        reports = [Report(4, 0), Report(2, -24576), Report(1, -94288)]
+        self.assertEqual([store.report(desk, [0] * 44, 0) for desk in range(3)], reports)
+        self.assertEqual([store.report(desk, [0] * 44, 0) for desk in range(3)], reports)
+
+    def test_every_weight_opens_and_is_kept(self):
+        for weight in range(17):
+            store = store_with(weight=weight)
+            for sample in (0, 1):
+                feed_all(store, sample, "00")
+            self.assertEqual(store.desks[0].weight, weight)
+            self.assertEqual(store.report(0, [0] * 22, 0), Report(1, -weight * 2048))
+
+    def test_feeds_and_charts_do_not_know_it(self):
+        told = []
+        for weight in (0, 4, 16):
+            store = store_with(weight=weight, D=2, reservation=5)
+            told.append([feed_all(store, 0, "0110100"), feed_all(store, 1, "111"), store.room(), store.desks[0].held])
+            told[-1] += [store.chart(0, len(s), code(s), a) for s in strings_up_to(2, 2) for a in (0, 1)]
+        self.assertIn(Refused(10), told[0][0])
+        self.assertEqual(told[1:], [told[0]] * 2)
+
+    def test_a_desk_opened_again_has_its_new_weight(self):
+        store = store_with(weight=16)
+        store.close(0)
+        store.open(0, 2, 0, 1, 1)
+        for sample in (0, 1):
+            feed_all(store, sample, "00")
+        self.assertEqual(store.report(0, [0] * 22, 0), Report(1, -2048))
 
 
 class Sheet(unittest.TestCase):
@@ -173,7 +226,7 @@ class Sheet(unittest.TestCase):
 
     def test_rows_at_their_place(self):
         sheet = list(range(100, 150))
-        self.assertEqual(self.store.report(0, sheet, 1), Report(2, -6144))
+        self.assertEqual(self.store.report(0, sheet, 1), Report(2, -24576))
         self.assertEqual(sheet[11:33], [0, 1, 0, 0, 4] + [0] * 6 + [0, 1, 1, 2, 0] + [0] * 6)
         self.assertEqual(sheet[:11] + sheet[33:], list(range(100, 111)) + list(range(133, 150)))
 
@@ -187,7 +240,7 @@ class Sheet(unittest.TestCase):
 
     def test_12_at_a_huge_place(self):
         self.assertEqual(self.store.report(0, [0] * 5632, 2**32 - 1), Refused(12))
-        self.assertEqual(self.store.report(0, [0] * 5632, 510), Report(2, -6144))
+        self.assertEqual(self.store.report(0, [0] * 5632, 510), Report(2, -24576))
         self.assertEqual(self.store.report(0, [0] * 5632, 511), Refused(12))
 
 
