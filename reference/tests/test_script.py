@@ -11,7 +11,7 @@ from reference.answers import Done, Refused, Report
 from reference.built import SCRIPTS, answers_of
 from reference.contexts import children
 from reference.estimate import FIRST, SECOND, SHARED, Recursion, Scale
-from reference.limits import DESKS, ROW, SAMPLES
+from reference.limits import ALPHABETS, DEPTHS, DESKS, ROW, SAMPLES
 from reference.logarithm import L
 from reference.script import SCRIPT_BYTES, BadScript, Call, Player, answer_kind, call, parse, play
 from reference.store import Store
@@ -22,7 +22,12 @@ PLAYER = Path(__file__).resolve().parents[2] / "crates" / "player"
 
 class Language(unittest.TestCase):
     def test_words_only_part_numbers(self):
-        self.assertEqual(parse("0 make 4 2144\n1 open 0 2 1 3, 4"), parse("0 4 2144 1 0 2 1 3 4"))
+        self.assertEqual(parse("0 make 4 2144\n1 open 0 2 1 4 3, 4"), parse("0 4 2144 1 0 2 1 4 3 4"))
+
+    def test_an_opening_has_its_weight_between_depth_and_reservation(self):
+        with patch.object(Store, "open", return_value=Done()) as opened:
+            play("1 open 5 3 2 16 40")
+        opened.assert_called_once_with(5, 3, 2, 16, 40)
 
     def test_line_and_back(self):
         calls = [call("make", 4, 2144), call("feedall", 0, 1, 5, 6, 7), call("feedall", 0, 1), call("room")]
@@ -36,11 +41,11 @@ class Language(unittest.TestCase):
             self.assertRaises(BadScript, play, "0 1 9999 " + text)
 
     def test_the_longest_run(self):
-        answers = play("0 1 9999 1 0 2 0 1 8 0 0 4096" + " 0" * 4096)
+        answers = play("0 1 9999 1 0 2 0 4 1 8 0 0 4096" + " 0" * 4096)
         self.assertEqual(answers[2], ["fed 2048 refused 9"])
 
     def test_feedall_stops_at_the_first_refusal(self):
-        answers = play("0 9 9999 1 0 2 1 2 8 0 0 4 0 1 0 1 8 0 0 0 8 1 0 1 0 6 0 1 0 1")
+        answers = play("0 9 9999 1 0 2 1 4 2 8 0 0 4 0 1 0 1 8 0 0 0 8 1 0 1 0 6 0 1 0 1")
         self.assertEqual(answers[2:5], [["fed 2 refused 10"], ["fed 0 whole"], ["fed 0 refused 4"]])
         self.assertEqual(answers[5], ["chart first " + struct.pack(">d", 1.0).hex()])
 
@@ -52,30 +57,35 @@ class Language(unittest.TestCase):
         )
 
 
-def choices_at_root(sitting):
-    """The best scores of a shared leaf, of two separate trees and of a split of both at the empty context."""
-    scale = Scale(sitting)
+def choices_at_root(scale):
+    """The best scores of a shared leaf, of two separate trees and, above depth 0, of a split of both at the empty context."""
     weighed = Recursion(scale)
-    separate = sum(weighed.own(kind, ())[0] for kind in (FIRST, SECOND))
-    return [scale.worth(SHARED, ()), separate, sum(weighed.joint(child)[0] for child in children((), sitting.A))]
+    scores = [scale.worth(SHARED, ()), sum(weighed.own(kind, ())[0] for kind in (FIRST, SECOND))]
+    return scores + ([sum(weighed.joint(child)[0] for child in children((), scale.A))] if scale.D else [])
 
 
-def choices_within(sitting, kind):
+def best_at_root(scale):
+    """Which of these choices score best: 0 a shared leaf, 1 separate trees, 2 a split of both."""
+    scores = choices_at_root(scale)
+    return [choice for choice, score in enumerate(scores) if score == max(scores)]
+
+
+def choices_within(scale, kind):
     """The best scores of a leaf and of a split at the empty context of that sample's separate tree."""
-    scale = Scale(sitting)
     weighed = Recursion(scale)
-    return [scale.worth(kind, ()), sum(weighed.own(kind, child)[0] for child in children((), sitting.A))]
+    return [scale.worth(kind, ()), sum(weighed.own(kind, child)[0] for child in children((), scale.A))]
 
 
-def reports_of_splits():
-    """The sittings that the script `splits` asks for a report on, with the words before each."""
+def reports_in(script):
+    """What a kept script's reports are weighed by, with the words before each, and the answer."""
     player = Player()
-    for line in (SCRIPTS / "splits.script").read_text().splitlines():
-        words = line if line[0].isalpha() else words
+    for line in (SCRIPTS / f"{script}.script").read_text().splitlines():
+        words = line if line[:1].isalpha() else words
         for step in parse(line):
-            player.play(step)
+            lines = player.play(step)
             if step.name == "report":
-                yield words, player.store.desks[step.numbers[0]].value()
+                sitting = player.store.desks[step.numbers[0]]
+                yield words, Scale(sitting.value(), sitting.weight), lines
 
 
 def length_word(length, D):
@@ -83,42 +93,79 @@ def length_word(length, D):
     return {0: "none", 1: "one", D: "as many", D + 1: "one more"}.get(length, "other")
 
 
+def wrong_in(store, opening):
+    """What is wrong with an opening's numbers, by the refusal that each gets alone."""
+    _, A, D, weight, reservation = opening
+    wrong = {5: A not in ALPHABETS or D not in DEPTHS, 20: weight > 16, 6: not 0 < reservation <= store.K}
+    wrong[7] = store.room_left() < reservation <= store.K
+    return tuple(number for number in wrong if wrong[number])
+
+
+def openings_played(play_them):
+    """Each opening at a closed desk of a made store while these are played: what is wrong with it, and its answer."""
+    played = []
+
+    def open_desk(store, *opening):
+        closed = store.K is not None and opening[0] in DESKS and not store.desks[opening[0]]
+        wrong = wrong_in(store, opening) if closed else None
+        answer = opened(store, *opening)
+        if closed:
+            played.append((wrong, answer, opening[3]))
+        return answer
+
+    opened = Store.open
+    with patch.object(Store, "open", open_desk):
+        play_them()
+    return played
+
+
 class Kept(unittest.TestCase):
     def test_answers(self):
         scripts = sorted(SCRIPTS.glob("*.script"))
-        self.assertEqual(len(scripts), 5)
+        self.assertEqual(len(scripts), 6)
         for path in scripts:
             printed = "".join(line + "\n" for lines in play(path.read_text()) for line in lines)
             self.assertEqual(printed, path.with_suffix(".answers").read_text(), path.name)
 
     def test_the_crate_plays_them_in_a_row(self):
         """`refusals` first, since only there no store is made yet."""
-        order = ("refusals", "marked", "splits", "limits", "desks")
+        order = ("refusals", "marked", "splits", "weights", "limits", "desks")
         for kind, file in [("script", "stdin"), ("answers", "stdout")]:
             in_a_row = "".join((SCRIPTS / f"{name}.{kind}").read_text() for name in order)
             self.assertEqual((PLAYER / file).read_text(), in_a_row, file)
 
     def test_the_greatest_logarithm_is_there(self):
-        """Both samples of 2,048 symbols, and their shared root."""
-        self.assertIn(f"report 1 {-L(4096)}\n0 0 0 4096 ", (SCRIPTS / "limits.answers").read_text())
+        """Both samples of 2,048 symbols, and their shared root, at weight 4."""
+        self.assertIn(f"report 1 {-4 * L(4096)}\n0 0 0 4096 ", (SCRIPTS / "limits.answers").read_text())
 
     def test_the_ties_that_splits_speaks_of(self):
-        """Which choices at the empty context score best: 0 a shared leaf, 1 separate trees, 2 a split of both."""
-        best = {}
-        for words, sitting in reports_of_splits():
-            scores = choices_at_root(sitting)
-            best[words] = [choice for choice, score in enumerate(scores) if score == max(scores)]
-        tied = {words: choices for words, choices in best.items() if "score" in words}
+        """Which choices at the empty context score best."""
+        tied = {words: best_at_root(scale) for words, scale, _ in reports_in("splits") if "score" in words}
         self.assertEqual(list(tied.values()), [[0, 1], [1, 2], [0, 2], [1, 2]], tied)
 
     def test_a_leaf_and_a_split_tie_within_separate_trees(self):
         """In that sitting of `splits` where separate splits score as much as separate leaves, and in no other."""
         tied = [
             words
-            for words, sitting in reports_of_splits()
-            if all(leaf == split for leaf, split in (choices_within(sitting, kind) for kind in (FIRST, SECOND)))
+            for words, scale, _ in reports_in("splits")
+            if all(leaf == split for leaf, split in (choices_within(scale, kind) for kind in (FIRST, SECOND)))
         ]
         self.assertEqual(tied, ["separate leaves, though separate splits and a split of both score as much"])
+
+    def test_the_ties_that_weights_speaks_of(self):
+        """Which choices at the empty context score best where nothing costs."""
+        free = [(words, best_at_root(scale)) for words, scale, _ in reports_in("weights") if not any(scale.costs.values())]
+        self.assertEqual([best for _, best in free[:8]], [[1, 2], [1, 2], [1, 2], [0, 1], [0, 1, 2], [1, 2], [1], [2]], free)
+
+    def test_one_sitting_is_there_at_every_weight(self):
+        costs = [scale.costs[FIRST] for words, scale, _ in reports_in("weights") if words == "J-three at every weight"]
+        self.assertEqual(costs, [weight * L(8) for weight in range(17)])
+
+    def test_desks_of_different_weights_are_there(self):
+        """One sitting, of which a desk with the plain weight has four shared contexts, one with none eight own ones, and two with
+        great weights one leaf."""
+        told = [lines[0].split()[1] for words, _, lines in reports_in("weights") if words.startswith("three desks")]
+        self.assertEqual(told, ["1", "8", "4", "1", "1", "4"])
 
     def test_places_that_do_not_count_are_there(self):
         """The first place that counts is refused with 10 at an empty sitting, and a chart finds nothing before it."""
@@ -128,8 +175,17 @@ class Kept(unittest.TestCase):
 
     def test_every_refusal_is_there(self):
         text = "".join(path.read_text() for path in SCRIPTS.glob("*.answers"))
-        for number in [*range(1, 13), 17, 18, 24]:
+        for number in [*range(1, 13), 17, 18, 20, 24]:
             self.assertIn(f"refused {number}\n", text)
+
+    def test_20_is_there_in_its_order(self):
+        """Alone, after 5, and before 6 and 7."""
+        played = openings_played(lambda: play((SCRIPTS / "refusals.script").read_text()))
+        answers = {wrong: answer for wrong, answer, _ in played}
+        for wrong, number in {(5, 20): 5, (5, 20, 6): 5, (20,): 20, (20, 6): 20, (20, 7): 20, (6,): 6, (7,): 7}.items():
+            self.assertEqual(answers[wrong], Refused(number), wrong)
+        weights = {weight for wrong, _, weight in played if wrong == (20,)}
+        self.assertEqual(weights, {17, 256, 2**16 + 4, 2**32 - 1})
 
     def test_24_is_there_in_its_order(self):
         """For each sample alone and for both, after 11 and before 12, at the depth and one symbol more."""
@@ -154,7 +210,8 @@ class Walks(unittest.TestCase):
         self.assertTrue(all(len(walk.text()) <= SCRIPT_BYTES for walk in walks))
         reports = [lines[0] for walk in walks for step, lines in walk.steps if step.name == "report"]
         self.assertEqual(reports[0], "refused 11")
-        self.assertEqual(reports[3:], [f"report 1 {-L(length)}" for length in range(4, 4097)])
+        scores = [-L(length) for length in range(4, 2049)] + [-16 * L(length) for length in range(2049, 4097)]
+        self.assertEqual(reports[3:], [f"report 1 {score}" for score in scores])
 
     def test_played_again_from_their_text(self):
         for seed in range(6):
@@ -179,6 +236,17 @@ class Walks(unittest.TestCase):
             for seed in range(12):
                 drawn_walk(Random(seed))
         self.assertEqual(come, {(held, answer) for held in (False, True) for answer in (Done(), Refused(10))})
+
+    def test_walks_open_at_every_weight(self):
+        """Often at none, at the plain one and at the greatest; 20 comes alone, after 5, and before 6 and 7."""
+        played = openings_played(lambda: [drawn_walk(Random(seed)) for seed in range(60)])
+        weights = Counter(weight for wrong, _, weight in played if not wrong)
+        self.assertEqual(set(weights), set(range(17)))
+        self.assertGreater(min(weights[weight] for weight in (0, 4, 16)), 0.1 * sum(weights.values()), weights)
+        answers = {(wrong, answer) for wrong, answer, _ in played}
+        expected = {(5, 20): 5, (5, 20, 6): 5, (5, 20, 7): 5, (20,): 20, (20, 6): 20, (20, 7): 20}
+        self.assertEqual({(wrong, Refused(number)) for wrong, number in expected.items()} - answers, set())
+        self.assertEqual({wrong[0] for wrong, answer in answers if answer == Refused(20)}, {20})
 
     def test_walks_report_on_samples_around_the_depth(self):
         """Each sample with one symbol and with as many as the depth gets 24, also where the rows would not fit, and beside

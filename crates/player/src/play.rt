@@ -141,12 +141,14 @@ fn play_open(script: &[u8], at: usize, store: &mut [u32]) -> usize {
     let desk = number_at(script, at);
     let alphabet = number_at(script, desk.next);
     let depth = number_at(script, alphabet.next);
-    let reservation = number_at(script, depth.next);
+    let weight = number_at(script, depth.next);
+    let reservation = number_at(script, weight.next);
     say_verdict(open(
         store,
         desk.value,
         alphabet.value,
         depth.value,
+        weight.value,
         reservation.value,
     ));
     reservation.next
