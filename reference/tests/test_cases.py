@@ -5,8 +5,11 @@ import unittest
 
 from reference.cases import CRATE, HERE, cases, file_of, printed
 from reference.counts import counts_by_place
+from reference.estimate import Recursion, Sitting
 from reference.program import output
+from reference.rows import rows_of
 from reference.sitting_file import read, samples_of
+from reference.tests.test_estimate import OldScale
 
 TEXT = HERE / "cases.txt"
 
@@ -16,6 +19,16 @@ def contexts_held(file):
     shape = read(file)
     first, second = (counts_by_place(sample, shape.D) for sample in samples_of(file, shape))
     return len({*first, *second})
+
+
+def old_output(file):
+    """What the program printed before request E5, with its score taken four times."""
+    shape = read(file)
+    scale = OldScale(Sitting(shape.A, shape.D, samples_of(file, shape)))
+    triple = Recursion(scale).triple()
+    rows = [row[: 3 + shape.A] for row in rows_of(scale, triple)]
+    lines = [[*shape, len(rows), 4 * scale.score(triple)], *rows]
+    return "".join(" ".join(map(str, numbers)) + "\n" for numbers in lines)
 
 
 class Cases(unittest.TestCase):
@@ -33,7 +46,14 @@ class Cases(unittest.TestCase):
     def test_longest(self):
         sizes = {name: len(file) for name, file in cases().items() if name.startswith(("longest", "46"))}
         self.assertEqual(set(sizes.values()), {4102, 4607, 4608, 4609})
-        self.assertIn("longest\n2 1 2048 2048 3 -33792\n", printed(cases()))
+        self.assertIn("longest\n2 1 2048 2048 3 -135168\n", printed(cases()))
+
+    def test_reports_are_as_before_the_weight_with_four_times_the_score(self):
+        outputs = [(name, file, output(file)) for name, file in cases().items()]
+        reports = [(name, file, report) for name, file, report in outputs if not report.startswith("refused")]
+        self.assertGreater(len(reports), 15)
+        for name, file, report in reports:
+            self.assertEqual(report, old_output(file), name)
 
     def test_each_refusal_is_among_them(self):
         text = printed(cases())
