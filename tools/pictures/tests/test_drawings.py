@@ -110,16 +110,16 @@ class Drawings(unittest.TestCase):
             picture = Path(folder, "picture.svg")
             words = [PICTURE, ALIKE, "--names", ACTS, "--svg", picture]
             drawn = subprocess.run(words, capture_output=True, text=True, check=True).stdout
-            self.assertTrue(drawn.startswith("A 3  D 2  n 60  m 60  rows 3  score -261226\n"))
+            self.assertTrue(drawn.startswith("A 3  D 2  n 60  m 60  rows 3  score -1044904\n"))
             said = "drawn from the report of the independent second program (reference/), not of the proved program"
             self.assertTrue(drawn.endswith(f"\n\n{said}\n"))
             self.assertIn(said, picture.read_text("utf-8"))
             program = Path(folder, "program")
-            program.write_text("#!/bin/sh\necho '2 1 2 2 1 -2048'; echo '0 0 0 2 0'\n")
+            program.write_text("#!/bin/sh\necho '2 1 2 2 1 -8192'; echo '0 0 0 2 0'\n")
             program.chmod(0o755)
             words = [PICTURE, ALIKE, "--program", program]
             drawn = subprocess.run(words, capture_output=True, text=True, check=True).stdout
-            self.assertTrue(drawn.startswith("A 2  D 1  n 2  m 2  rows 1  score -2048\n"))
+            self.assertTrue(drawn.startswith("A 2  D 1  n 2  m 2  rows 1  score -8192\n"))
             self.assertTrue(drawn.endswith(f"\ndrawn from the report that {program} printed\n"))
 
 

@@ -9,7 +9,7 @@ from pictures.report import Malformed, read_names, read_report
 from pictures.tests import ALIKE, PICTURE
 from pictures.trees import trees_of
 
-GOOD = "2 1 8 8 3 -20176\n1 1 0 0 4\n2 1 0 3 2\n0 1 1 5 0\n"
+GOOD = "2 1 8 8 3 -80704\n1 1 0 0 4\n2 1 0 3 2\n0 1 1 5 0\n"
 
 MALFORMED = [
     ("", "empty"),
@@ -17,7 +17,7 @@ MALFORMED = [
     ("alphabet 2\n", "samples/make"),
     ("refused 10\n", "the program refused 10"),
     ("2 1 8 8 3\n", "line 1 should be 6 whole numbers"),
-    ("2 1 8 8 3 -20176 \n", "line 1 should be 6 whole numbers"),
+    ("2 1 8 8 3 -80704 \n", "line 1 should be 6 whole numbers"),
     ("9 1 8 8 0 0\n", "A is 2 to 8"),
     ("2 1 8 0 0 0\n", "n and m are above D"),
     ("2 1 1 8 1 0\n0 0 0 7 0\n", "n and m are above D"),
