@@ -99,7 +99,7 @@ def drawn_pair(random, A):
 
 
 def drawn_weight(random):
-    """A weight within its limits: often none, the plain one and the greatest, else any."""
+    """A weight within its limits: often 0, the plain one and the greatest, else any."""
     return weighted(random, [(0, 3), (WEIGHT, 4), (WEIGHTS[-1], 2), (random.choice(WEIGHTS), 5)])
 
 
@@ -110,7 +110,7 @@ def wrong_numbers(K, left):
         [(0, 5), (ALPHABETS[0] - 1, 5), (ALPHABETS[-1] + 1, 5), (LARGEST, 5)],
         [(DEPTHS[-1] + 1, 5), (LARGEST, 5)],
         [(WEIGHTS[-1] + 1, 20), (2**8, 20), (2**16 + WEIGHT, 20), (LARGEST, 20)],
-        [(0, 6), (K + 1, 6), (LARGEST, 6), (left + 1, 7 if left < K else 6)],
+        [(0, 6), (K + 1, 6), (LARGEST, 6)] + [(left + 1, 7), (K, 7)] * (left < K),
     ]
 
 

@@ -75,7 +75,7 @@ def wrong_opening(walk):
     random = walk.random
     numbers = [random.choice(ALPHABETS), random.choice(DEPTHS), drawn_weight(random), 1]
     wrong = wrong_numbers(walk.store.K, walk.store.room_left())
-    for place in random.sample(range(4), random.randrange(1, 5)):
+    for place in random.sample(range(4), random.choice([1, 2, 2, 3])):
         numbers[place] = random.choice(wrong[place])[0]
     desk = walk.some_desk(desk for desk in DESKS if not walk.store.desks[desk])
     walk.play("open", desk, *numbers)
@@ -191,7 +191,7 @@ def wrong_context(walk):
 
 ACTS = [
     (open_desk, 10),
-    (wrong_opening, 2),
+    (wrong_opening, 3),
     (feed, 6),
     (feed_all, 26),
     (feed_past_limit, 1),

@@ -134,7 +134,7 @@ class Ties(unittest.TestCase):
     def test_deeper_trees_where_nothing_costs(self):
         """Longer samples at weight 0, where the trees reach the depth."""
         random = Random("nothing costs")
-        for A, D in [(2, 2), (2, 3), (3, 2)] * 4:
+        for A, D in [(2, 2), (2, 3), (3, 2)] * 2:
             sitting = Sitting(A, D, tuple(drawn_sample(random, A, random.randrange(9, 60)) for _ in range(2)))
             self.compared(Scale(sitting, 0))
 
@@ -175,7 +175,7 @@ class Weights(unittest.TestCase):
     def test_four_quarters_pick_the_old_triple(self):
         """And score four times as much, of sittings of every shape and length."""
         random = Random("four quarters")
-        for _ in range(250):
+        for _ in range(200):
             sitting = drawn_sitting(random)
             old = OldScale(sitting)
             triple = Recursion(old).triple()
