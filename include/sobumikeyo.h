@@ -15,8 +15,9 @@
  * Each function answers 0, or the number of a refusal from the lists below. A
  * refused call writes nothing: store, sheet, file and outputs stay as they were.
  * Where several refusals apply, the first in the order given is given: that of the
- * lists, where the numbers rise but for 24 (a report: 1, 2, 4, 11, 24, 12). Two
- * functions answer something else: sobumikeyo_feed_all and sobumikeyo_sound.
+ * lists, where the numbers rise but for 20 and 24 (an opening: 1, 2, 3, 5, 20, 6, 7;
+ * a report: 1, 2, 4, 11, 24, 12). Two functions answer something else:
+ * sobumikeyo_feed_all and sobumikeyo_sound.
  *
  * All memory is the caller's. No function allocates or keeps a pointer. A slice is
  * a pointer and how many elements it has, not how many bytes; no pointer may be
@@ -47,6 +48,7 @@ extern "C" {
 #define SOBUMIKEYO_ALREADY_OPEN 3      /* opening a desk that is open */
 #define SOBUMIKEYO_NOT_OPEN 4          /* any other call at a desk that is not open */
 #define SOBUMIKEYO_OUTSIDE_LIMITS 5    /* alphabet not 2 to 8, or depth above 6 */
+#define SOBUMIKEYO_WEIGHT_OUTSIDE 20   /* weight above 16 */
 #define SOBUMIKEYO_BAD_RESERVATION 6   /* reservation 0, or above the store's room */
 #define SOBUMIKEYO_NO_ROOM 7           /* reservation above the room left */
 #define SOBUMIKEYO_NOT_OF_SITTING 8    /* a sample, symbol or context that the sitting cannot have */
@@ -74,6 +76,10 @@ extern "C" {
 /* How many numbers a row has: kind (0 shared, 1 first's own, 2 second's own), length, code, eight counts. */
 #define SOBUMIKEYO_ROW_WIDTH 11
 
+/* The weight of a sitting's penalty, in quarters: 0 to the largest. The plain one is the penalty itself, neither less nor more. */
+#define SOBUMIKEYO_PLAIN_WEIGHT 4
+#define SOBUMIKEYO_LARGEST_WEIGHT 16
+
 /* How many bytes are enough for the file of two samples of so many symbols, whatever they are. */
 /* For a salvage as many as the damaged file has are enough. */
 #define SOBUMIKEYO_FILE_ROOM(first_len, second_len) ((size_t)6 + (first_len) + (second_len))
@@ -82,8 +88,10 @@ extern "C" {
 uint32_t sobumikeyo_make(uint32_t *store, size_t store_len, uint32_t room);
 
 /* Opens a desk, 0 to 7, for symbols below `alphabet` and contexts of up to `depth` symbols. */
+/* `weight` is what a report's contexts are charged by: a whole number of quarters from 0 to 16; 4 is the plain penalty. */
+/* With 0 no context costs anything, and a report may have very many rows. It stays the sitting's until the desk is closed. */
 /* Both samples are empty. The sitting may have `reservation` contexts and no more. */
-uint32_t sobumikeyo_open(uint32_t *store, size_t store_len, uint32_t desk, uint32_t alphabet, uint32_t depth, uint32_t reservation);
+uint32_t sobumikeyo_open(uint32_t *store, size_t store_len, uint32_t desk, uint32_t alphabet, uint32_t depth, uint32_t weight, uint32_t reservation);
 
 /* One more symbol of sample 0 or 1. Where `depth` symbols are before it, it is counted in the depth + 1 contexts that they end in; */
 /* where fewer are, it is only kept. So a sitting holds no context until a sample has more than `depth` symbols. */
@@ -102,7 +110,10 @@ uint32_t sobumikeyo_close(uint32_t *store, size_t store_len, uint32_t desk);
 uint32_t sobumikeyo_room(const uint32_t *store, size_t store_len, uint32_t *left);
 
 /* Writes the report's rows from row `place` of the sheet on; no number outside those rows is written. */
-/* `rows` is how many there are, and `score` the doubled score, which is never above 0. */
+/* `rows` is how many there are: by an argument on paper, not by proof, no more than 2 + 2 * (alphabet - 1) * reservation. */
+/* `score` is the sum of each row's fit less its cost, and never above 0. With counts c and total t the fit is eightfold, */
+/* 8 * (the sum of c * L(c), less t * L(t)), and the cost weight * (alphabet - 1) * L(the length of its sample, or of both where shared); */
+/* L(n) is 1024 times the logarithm of n to base 2, rounded down, and L(0) is 0. */
 /* A row's code is the sum of symbol times 8^j, where j is 0 for the most recent symbol of its context. */
 /* Its counts are those of the places from depth + 1 on. Where a sample has no such place there is no report: */
 /* 11 where it is empty, then 24 where it has symbols, but no more than `depth`; both go before 12. */
