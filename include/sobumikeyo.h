@@ -89,7 +89,7 @@ uint32_t sobumikeyo_make(uint32_t *store, size_t store_len, uint32_t room);
 
 /* Opens a desk, 0 to 7, for symbols below `alphabet` and contexts of up to `depth` symbols. */
 /* `weight` is what a report's contexts are charged by: a whole number of quarters from 0 to 16; 4 is the plain penalty. */
-/* With 0 no context costs anything, and a report may have very many rows. It stays the sitting's until the desk is closed. */
+/* It stays the sitting's until the desk is closed. With 0 no context costs anything, and a report may have very many rows. */
 /* Both samples are empty. The sitting may have `reservation` contexts and no more. */
 uint32_t sobumikeyo_open(uint32_t *store, size_t store_len, uint32_t desk, uint32_t alphabet, uint32_t depth, uint32_t weight, uint32_t reservation);
 
