@@ -54,7 +54,7 @@ impl Player {
         let mut next = || script.number();
         Some(match opcode {
             0 => self.make(next(), next() as usize),
-            1 => done(self.store.open(Desk(next()), next(), next(), next())),
+            1 => done(self.store.open(Desk(next()), next(), next(), next(), next())),
             2 => done(self.store.feed(Desk(next()), Sample(next()), next())),
             3 => done(self.store.close(Desk(next()))),
             4 => answer(self.store.room_left().map(|left| format!("room {left}"))),

@@ -1,7 +1,7 @@
 //! Prints the report on a sitting file at standard input, as the repository's own program does.
 //!
 //!     python3 -m reference.compare --program target/cargo/debug/examples/sitting
-use sobumikeyo::{read, Desk, Refusal, Sample, Store, ROW_WIDTH};
+use sobumikeyo::{read, Desk, Refusal, Sample, Store, PLAIN_WEIGHT, ROW_WIDTH};
 use std::io::{Read, Write};
 
 const INPUT_BYTES: u64 = 4608;
@@ -12,7 +12,7 @@ fn report(file: &[u8]) -> Result<String, Refusal> {
     let sitting = read(file)?;
     let (desk, alphabet) = (Desk(0), sitting.alphabet as usize);
     let mut store = Store::new(ROOM)?;
-    store.open(desk, sitting.alphabet, sitting.depth, ROOM)?;
+    store.open(desk, sitting.alphabet, sitting.depth, PLAIN_WEIGHT, ROOM)?;
     store.feed_all(desk, Sample::FIRST, sitting.first)?;
     store.feed_all(desk, Sample::SECOND, sitting.second)?;
     let mut sheet = [0; ROW_WIDTH * SHEET_ROWS];

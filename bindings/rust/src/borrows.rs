@@ -11,7 +11,7 @@ macro_rules! writes {
 }
 
 writes!(Make, "make(1)");
-writes!(Open, "open(Desk(0), 2, 1, 1)");
+writes!(Open, "open(Desk(0), 2, 1, PLAIN_WEIGHT, 1)");
 writes!(Feed, "feed(Desk(0), Sample::FIRST, 0)");
 writes!(FeedAll, "feed_all(Desk(0), Sample::FIRST, &[0])");
 writes!(Close, "close(Desk(0))");

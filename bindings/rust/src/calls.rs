@@ -2,7 +2,7 @@
 
 extern "C" {
     pub fn sobumikeyo_make(store: *mut u32, store_len: usize, room: u32) -> u32;
-    pub fn sobumikeyo_open(store: *mut u32, store_len: usize, desk: u32, alphabet: u32, depth: u32, reservation: u32) -> u32;
+    pub fn sobumikeyo_open(store: *mut u32, store_len: usize, desk: u32, alphabet: u32, depth: u32, weight: u32, reservation: u32) -> u32;
     pub fn sobumikeyo_feed(store: *mut u32, store_len: usize, desk: u32, sample: u32, symbol: u32) -> u32;
     pub fn sobumikeyo_feed_all(
         store: *mut u32,

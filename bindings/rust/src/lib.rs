@@ -7,14 +7,14 @@
 //! same acts. The symbols before that place are only what came just before.
 //!
 //! ```
-//! use sobumikeyo::{Desk, Kind, Sample, Store};
+//! use sobumikeyo::{Desk, Kind, Sample, Store, PLAIN_WEIGHT};
 //!
 //! let mut store = Store::new(64)?;
-//! store.open(Desk(0), 2, 1, 64)?;
+//! store.open(Desk(0), 2, 1, PLAIN_WEIGHT, 64)?;
 //! store.feed_all(Desk(0), Sample::FIRST, &[0, 1, 0, 1, 0, 1, 0, 1])?;
 //! store.feed_all(Desk(0), Sample::SECOND, &[0, 0, 1, 0, 0, 1, 0, 0])?;
 //! let report = store.report(Desk(0))?;
-//! assert_eq!(report.score, -20176);
+//! assert_eq!(report.score, -80704);
 //! let shared: Vec<_> = report.rows.iter().filter(|row| row.kind == Kind::Shared).collect();
 //! assert_eq!(shared[0].context.symbols(), [1]);
 //! assert_eq!(shared[0].counts[..2], [5, 0]);
@@ -40,4 +40,4 @@ pub use file::{read, write, SittingFile};
 pub use refusal::{Refusal, Stopped};
 pub use report::{Context, Kind, Report, Row, ROW_WIDTH};
 pub use salvage::{salvage, Lost, Salvaged};
-pub use store::{store_size, Desk, Sample, Store};
+pub use store::{store_size, Desk, Sample, Store, LARGEST_WEIGHT, PLAIN_WEIGHT};

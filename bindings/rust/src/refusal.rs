@@ -26,6 +26,8 @@ impl Refusal {
 
     /// The refusal that `Context::of` gives for what no sitting can have.
     pub(crate) const NOT_OF_SITTING: Refusal = Refusal { number: 8 };
+    /// The refusal upon which `Store::report` lends a longer sheet.
+    pub(crate) const SHEET_SHORT: Refusal = Refusal { number: 12 };
 
     /// Its number in the table of `docs/REFUSALS.md`; never 0.
     pub fn number(self) -> u32 {
@@ -82,7 +84,7 @@ impl From<Stopped> for Refusal {
 const UNKNOWN: (&str, &str) = ("This is no refusal that is known here.", "See that the library is the one of this crate.");
 
 /// What happened and what to do, by number.
-const WORDS: [(u32, &str, &str); 20] = [
+const WORDS: [(u32, &str, &str); 21] = [
     (
         1,
         "The store was never made, or its numbers were changed from outside.",
@@ -132,6 +134,7 @@ const WORDS: [(u32, &str, &str); 20] = [
         "The bytes lent are fewer than the file to be written or saved has.",
         "Lend as many bytes as the two samples have symbols and 6 more; for a salvage, as many as the damaged file has.",
     ),
+    (20, "The weight is outside its limits.", "Name a weight from 0 to 16 quarters; 4 is the plain penalty."),
     (
         24,
         "A sample has symbols, but no more than the depth, so none of them counts.",

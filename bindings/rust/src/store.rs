@@ -2,11 +2,18 @@
 use crate::report::{Report, Row, ROW_WIDTH};
 use crate::{calls, Chart, Context, Point, Refusal, Stopped};
 
+/// The weight of the plain penalty: a weight is a whole number of quarters.
+pub const PLAIN_WEIGHT: u32 = 4;
+/// The largest weight that an opening accepts.
+pub const LARGEST_WEIGHT: u32 = 16;
 /// The largest room that a making accepts.
 const LARGEST_ROOM: u32 = 4096;
-/// How many rows a report's sheet has, twice the program's, which some reports on three symbols pass. By estimate what a row costs keeps
-/// reports of strings below 600.
+/// How many rows a report's first sheet has, twice the program's, which some reports on three symbols pass. By estimate what a row costs at the
+/// plain weight keeps reports of strings below 600; at small weights there may be more.
 const SHEET_ROWS: usize = 1024;
+/// How many no report passes, by an argument on paper: a tree has one leaf and at most seven more for each split, only contexts that are held are
+/// split, and there are two trees.
+const MOST_ROWS: usize = 2 * (1 + 7 * LARGEST_ROOM as usize);
 
 /// How many numbers a store for so many contexts has.
 pub const fn store_size(room: u32) -> usize {
@@ -31,12 +38,12 @@ impl Sample {
 /// A store: room for contexts, shared by up to eight desks. It owns its numbers.
 ///
 /// ```
-/// use sobumikeyo::{Desk, Sample, Store};
+/// use sobumikeyo::{Desk, Sample, Store, PLAIN_WEIGHT};
 ///
 /// let mut store = Store::new(100)?;
 /// let (morning, evening) = (Desk(0), Desk(1));
-/// store.open(morning, 2, 1, 60)?;
-/// store.open(evening, 3, 2, 40)?;
+/// store.open(morning, 2, 1, PLAIN_WEIGHT, 60)?;
+/// store.open(evening, 3, 2, 2 * PLAIN_WEIGHT, 40)?;
 /// store.feed(morning, Sample::FIRST, 1)?;
 /// store.feed(evening, Sample::FIRST, 2)?;
 /// assert_eq!(store.room_left()?, 0);
@@ -49,7 +56,7 @@ impl Sample {
 /// different desks, lend it by a lock.
 ///
 /// ```
-/// use sobumikeyo::{Desk, Sample, Store};
+/// use sobumikeyo::{Desk, Sample, Store, PLAIN_WEIGHT};
 /// use std::sync::Mutex;
 ///
 /// let store = Mutex::new(Store::new(100)?);
@@ -57,7 +64,7 @@ impl Sample {
 ///     for desk in [Desk(0), Desk(1)] {
 ///         let store = &store;
 ///         threads.spawn(move || {
-///             store.lock().unwrap().open(desk, 2, 1, 50).unwrap();
+///             store.lock().unwrap().open(desk, 2, 1, PLAIN_WEIGHT, 50).unwrap();
 ///             store.lock().unwrap().feed_all(desk, Sample::FIRST, &[0, 1, 0]).unwrap();
 ///         });
 ///     }
@@ -108,9 +115,26 @@ impl Store {
     }
 
     /// Opens a desk for symbols below `alphabet` and contexts of up to `depth` symbols. The sitting may have `reservation` contexts.
-    pub fn open(&mut self, desk: Desk, alphabet: u32, depth: u32, reservation: u32) -> Result<(), Refusal> {
+    ///
+    /// `weight` is what a report's contexts are charged by, until the desk is closed: a whole number of quarters from 0 to 16
+    /// ([`LARGEST_WEIGHT`]), where 4 ([`PLAIN_WEIGHT`]) is the plain penalty; any other gets refusal 20. 0 makes deep splits free, and the tie rules
+    /// decide then.
+    ///
+    /// ```
+    /// use sobumikeyo::{Desk, Sample, Store, LARGEST_WEIGHT};
+    ///
+    /// let mut store = Store::new(6)?;
+    /// for (desk, weight) in [(Desk(0), 0), (Desk(1), LARGEST_WEIGHT)] {
+    ///     store.open(desk, 2, 1, weight, 3)?;
+    ///     store.feed_all(desk, Sample::FIRST, &[0, 1, 0, 1])?;
+    ///     store.feed_all(desk, Sample::SECOND, &[0, 0, 1, 1])?;
+    /// }
+    /// assert_eq!((store.report(Desk(0))?.rows.len(), store.report(Desk(1))?.rows.len()), (4, 1));
+    /// # Ok::<(), sobumikeyo::Refusal>(())
+    /// ```
+    pub fn open(&mut self, desk: Desk, alphabet: u32, depth: u32, weight: u32, reservation: u32) -> Result<(), Refusal> {
         let (numbers, len) = (self.numbers.as_mut_ptr(), self.numbers.len());
-        Refusal::unless_zero(unsafe { calls::sobumikeyo_open(numbers, len, desk.0, alphabet, depth, reservation) })
+        Refusal::unless_zero(unsafe { calls::sobumikeyo_open(numbers, len, desk.0, alphabet, depth, weight, reservation) })
     }
 
     /// One more symbol of a sample. Where `depth` symbols are before it, it is counted in the depth + 1 contexts that they end in; where fewer are,
@@ -118,10 +142,10 @@ impl Store {
     /// one at most `depth`.
     ///
     /// ```
-    /// use sobumikeyo::{Desk, Sample, Store};
+    /// use sobumikeyo::{Desk, Sample, Store, PLAIN_WEIGHT};
     ///
     /// let mut store = Store::new(2)?;
-    /// store.open(Desk(0), 2, 2, 2)?;
+    /// store.open(Desk(0), 2, 2, PLAIN_WEIGHT, 2)?;
     /// store.feed_all(Desk(0), Sample::FIRST, &[0, 1])?;
     /// assert_eq!(store.feed(Desk(0), Sample::FIRST, 0).unwrap_err().number(), 10);
     /// # Ok::<(), sobumikeyo::Refusal>(())
@@ -156,19 +180,27 @@ impl Store {
     /// has no more than the depth with 24.
     ///
     /// ```
-    /// use sobumikeyo::{Desk, Sample, Store};
+    /// use sobumikeyo::{Desk, Sample, Store, PLAIN_WEIGHT};
     ///
     /// let mut store = Store::new(8)?;
-    /// store.open(Desk(0), 2, 1, 8)?;
+    /// store.open(Desk(0), 2, 1, PLAIN_WEIGHT, 8)?;
     /// store.feed_all(Desk(0), Sample::FIRST, &[0, 0])?;
     /// store.feed(Desk(0), Sample::SECOND, 0)?;
     /// assert_eq!(store.report(Desk(0)).unwrap_err().number(), 24);
     /// store.feed(Desk(0), Sample::SECOND, 0)?;
-    /// assert_eq!(store.report(Desk(0))?.score, -2048);
+    /// assert_eq!(store.report(Desk(0))?.score, -8192);
     /// # Ok::<(), sobumikeyo::Refusal>(())
     /// ```
     pub fn report(&self, desk: Desk) -> Result<Report, Refusal> {
-        let mut sheet = [0; SHEET_ROWS * ROW_WIDTH];
+        match self.report_within(desk, SHEET_ROWS) {
+            Err(Refusal::SHEET_SHORT) => self.report_within(desk, MOST_ROWS),
+            answered => answered,
+        }
+    }
+
+    /// The report on a sheet of so many rows.
+    fn report_within(&self, desk: Desk, sheet_rows: usize) -> Result<Report, Refusal> {
+        let mut sheet = vec![0; sheet_rows * ROW_WIDTH];
         let (rows, score) = self.report_on(desk, &mut sheet, 0)?;
         let rows = sheet.chunks_exact(ROW_WIDTH).take(rows as usize).map(Row::of_numbers).collect();
         Ok(Report { rows, score })
@@ -188,10 +220,10 @@ impl Store {
     /// How often, of the times that a sample saw the context, the symbol came next: places from depth + 1 on.
     ///
     /// ```
-    /// use sobumikeyo::{Chart, Context, Desk, Sample, Store};
+    /// use sobumikeyo::{Chart, Context, Desk, Sample, Store, PLAIN_WEIGHT};
     ///
     /// let mut store = Store::new(8)?;
-    /// store.open(Desk(0), 2, 1, 8)?;
+    /// store.open(Desk(0), 2, 1, PLAIN_WEIGHT, 8)?;
     /// store.feed_all(Desk(0), Sample::FIRST, &[0, 1, 0, 0, 1])?;
     /// assert_eq!(store.chart(Desk(0), Context::of(&[0])?, 1)?, Chart::First(2.0 / 3.0));
     /// # Ok::<(), sobumikeyo::Refusal>(())

@@ -1,5 +1,5 @@
 //! Which loan each call asks for, as a type; and threads that share a store by a lock. That the compiler refuses any other use is tried in `src/borrows.rs`.
-use sobumikeyo::{Chart, Context, Desk, Refusal, Report, Sample, Stopped, Store};
+use sobumikeyo::{Chart, Context, Desk, Refusal, Report, Sample, Stopped, Store, PLAIN_WEIGHT};
 use std::sync::Mutex;
 use std::thread;
 
@@ -7,7 +7,7 @@ use std::thread;
 #[allow(clippy::type_complexity)]
 const WRITE: (
     fn(&mut Store, u32) -> Result<(), Refusal>,
-    fn(&mut Store, Desk, u32, u32, u32) -> Result<(), Refusal>,
+    fn(&mut Store, Desk, u32, u32, u32, u32) -> Result<(), Refusal>,
     fn(&mut Store, Desk, Sample, u32) -> Result<(), Refusal>,
     fn(&mut Store, Desk, Sample, &[u8]) -> Result<(), Stopped>,
     fn(&mut Store, Desk) -> Result<(), Refusal>,
@@ -32,7 +32,7 @@ const SITTINGS: u32 = 50;
 fn sitting(store: &Mutex<Store>, desk: Desk, seed: u32) -> Report {
     let call = || store.lock().unwrap();
     let symbols: Vec<u8> = (0..60).map(|place| ((place * place + seed * place + desk.0) % 7 % 3) as u8).collect();
-    call().open(desk, 3, 3, ROOM / DESKS).unwrap();
+    call().open(desk, 3, 3, PLAIN_WEIGHT, ROOM / DESKS).unwrap();
     call().feed_all(desk, Sample::FIRST, &symbols).unwrap();
     for &symbol in symbols.iter().rev() {
         call().feed(desk, Sample::SECOND, u32::from(symbol)).unwrap();
@@ -72,7 +72,7 @@ fn four_desks_of_one_store() {
 #[test]
 fn reports_side_by_side() {
     let mut store = Store::new(ROOM).unwrap();
-    store.open(Desk(0), 3, 3, ROOM).unwrap();
+    store.open(Desk(0), 3, 3, PLAIN_WEIGHT, ROOM).unwrap();
     store.feed_all(Desk(0), Sample::FIRST, &[0, 1, 2, 0, 2, 1, 0, 1]).unwrap();
     store.feed_all(Desk(0), Sample::SECOND, &[2, 1, 0, 0, 1, 2, 2, 1]).unwrap();
     let (store, report) = (&store, store.report(Desk(0)));

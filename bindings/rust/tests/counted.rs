@@ -1,6 +1,6 @@
 //! Places are counted from D+1 on: samples of no more than D symbols hold no context and get no report, and the first that is counted
 //! adds a context of every length.
-use sobumikeyo::{Chart, Context, Desk, Kind, Point, Refusal, Sample, Stopped, Store, ROW_WIDTH};
+use sobumikeyo::{Chart, Context, Desk, Kind, Point, Refusal, Sample, Stopped, Store, PLAIN_WEIGHT, ROW_WIDTH};
 
 const DESK: Desk = Desk(0);
 const DEEPEST: usize = 6;
@@ -11,7 +11,7 @@ const ACTS: [u8; DEEPEST + 1] = [0, 1, 1, 0, 2, 1, 0];
 fn sitting_of(depth: usize, reservation: usize, first: &[u8], second: &[u8]) -> Result<Store, Stopped> {
     let (depth, reservation) = (depth as u32, reservation as u32);
     let mut store = Store::new(reservation).unwrap();
-    store.open(DESK, 3, depth, reservation).unwrap();
+    store.open(DESK, 3, depth, PLAIN_WEIGHT, reservation).unwrap();
     store.feed_all(DESK, Sample::FIRST, first)?;
     store.feed_all(DESK, Sample::SECOND, second)?;
     Ok(store)
@@ -77,10 +77,10 @@ fn reports_by_the_lengths_of_both_samples() {
 /// Three acts of each at depth 2, of which one counts, with A 3.
 #[test]
 fn costs_go_by_the_whole_lengths() {
-    // a shared context at 2 L(6) costs less than two own ones at 2 L(3)
-    assert_eq!(reported(&sitting(2, 3, &[0, 1, 0]).unwrap()), (vec![(Kind::Shared, 0, 2)], -5294));
+    // a shared context at 4 * 2 L(6) costs less than two own ones at 4 * 2 L(3)
+    assert_eq!(reported(&sitting(2, 3, &[0, 1, 0]).unwrap()), (vec![(Kind::Shared, 0, 2)], -21176));
     let apart = sitting_of(2, 3, &[0, 1, 2], &[0, 1, 0]).unwrap();
-    assert_eq!(reported(&apart), (vec![(Kind::First, 0, 1), (Kind::Second, 0, 1)], -6492));
+    assert_eq!(reported(&apart), (vec![(Kind::First, 0, 1), (Kind::Second, 0, 1)], -25968));
 }
 
 #[test]

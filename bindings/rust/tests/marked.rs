@@ -1,13 +1,13 @@
 //! Document 01's marked examples, J2 as request E3 works it anew, since places are counted from D+1 on, and J5 as request E8 does: samples
-//! no longer than D get no report.
+//! no longer than D get no report. Scores are those of request E5 at the plain weight.
 use sobumikeyo::Kind::{First, Second, Shared};
-use sobumikeyo::{Chart, Context, Desk, Kind, Point, Report, Sample, Store};
+use sobumikeyo::{Chart, Context, Desk, Kind, Point, Report, Sample, Store, PLAIN_WEIGHT};
 
 const DESK: Desk = Desk(0);
 
 fn sitting(depth: u32, reservation: u32, first: &[u8], second: &[u8]) -> Store {
     let mut store = Store::new(reservation).unwrap();
-    store.open(DESK, 2, depth, reservation).unwrap();
+    store.open(DESK, 2, depth, PLAIN_WEIGHT, reservation).unwrap();
     store.feed_all(DESK, Sample::FIRST, first).unwrap();
     store.feed_all(DESK, Sample::SECOND, second).unwrap();
     store
@@ -36,7 +36,7 @@ fn rows(report: &Report) -> Vec<Told> {
 fn j1_two_shared_contexts() {
     let told = report(1, &[0, 1, 0, 1], &[0, 1, 0, 1]);
     assert_eq!(rows(&told), [(Shared, vec![0], [0, 4]), (Shared, vec![1], [2, 0])]);
-    assert_eq!(told.score, -6144);
+    assert_eq!(told.score, -24576);
     assert!(told.first_tree().eq(told.second_tree()));
 }
 
@@ -52,7 +52,7 @@ fn j1_empty_context() {
 #[test]
 fn j1_needs_three_contexts() {
     let mut store = Store::new(2).unwrap();
-    store.open(DESK, 2, 1, 2).unwrap();
+    store.open(DESK, 2, 1, PLAIN_WEIGHT, 2).unwrap();
     let stopped = store.feed_all(DESK, Sample::FIRST, &[0, 1, 0, 1]).unwrap_err();
     assert_eq!((stopped.accepted, stopped.refusal.number()), (2, 10));
 }
@@ -61,7 +61,7 @@ fn j1_needs_three_contexts() {
 fn j2_all_their_own() {
     let told = report(1, &[0, 1, 0, 1], &[0, 0, 0, 0]);
     assert_eq!(rows(&told), [(Second, vec![], [3, 0]), (First, vec![0], [0, 2]), (First, vec![1], [1, 0])]);
-    assert_eq!(told.score, -6144);
+    assert_eq!(told.score, -24576);
     let trees = [told.first_tree().count(), told.second_tree().count()];
     assert_eq!(trees, [2, 1]);
 }
@@ -70,7 +70,7 @@ fn j2_all_their_own() {
 fn j3_one_habit_shared() {
     let told = report(1, &[0, 1, 0, 1, 0, 1, 0, 1], &[0, 0, 1, 0, 0, 1, 0, 0]);
     assert_eq!(rows(&told), [(First, vec![0], [0, 4]), (Second, vec![0], [3, 2]), (Shared, vec![1], [5, 0])]);
-    assert_eq!(told.score, -20176);
+    assert_eq!(told.score, -80704);
     let first: Vec<Kind> = told.first_tree().map(|row| row.kind).collect();
     let second: Vec<Kind> = told.second_tree().map(|row| row.kind).collect();
     assert_eq!((first, second), (vec![First, Shared], vec![Second, Shared]));
@@ -80,7 +80,7 @@ fn j3_one_habit_shared() {
 fn j4_no_memory() {
     let told = report(0, &[0, 1, 0, 1], &[0, 1, 0, 1]);
     assert_eq!(rows(&told), [(Shared, vec![], [4, 4])]);
-    assert_eq!(told.score, -19456);
+    assert_eq!(told.score, -77824);
 }
 
 #[test]

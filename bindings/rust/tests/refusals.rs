@@ -1,5 +1,5 @@
 //! Each refusal by its number, at its limit; a refused call leaves every number as it was.
-use sobumikeyo::{read, store_size, Chart, Context, Desk, Kind, Point, Refusal, Row, Sample, Store};
+use sobumikeyo::{read, store_size, Chart, Context, Desk, Kind, Point, Refusal, Row, Sample, Store, LARGEST_WEIGHT, PLAIN_WEIGHT};
 
 const DESK: Desk = Desk(0);
 const LONGEST: usize = 2048;
@@ -14,7 +14,7 @@ fn refused<T: std::fmt::Debug>(number: u32, store: &mut Store, call: impl Fn(&mu
 /// A store of room 12 with desk 0 open: three symbols, depth 2, five contexts reserved.
 fn opened() -> Store {
     let mut store = Store::new(12).unwrap();
-    store.open(DESK, 3, 2, 5).unwrap();
+    store.open(DESK, 3, 2, PLAIN_WEIGHT, 5).unwrap();
     store
 }
 
@@ -22,7 +22,7 @@ fn opened() -> Store {
 fn numbers_that_are_no_store() {
     let mut store = Store::of_numbers(vec![7; 3000]);
     assert!(!store.is_sound());
-    refused(1, &mut store, |s| s.open(Desk(9), 9, 9, 0));
+    refused(1, &mut store, |s| s.open(Desk(9), 9, 9, 17, 0));
     refused(1, &mut store, |s| s.feed(DESK, Sample::FIRST, 0));
     refused(1, &mut store, |s| s.close(DESK));
     refused(1, &mut store, |s| s.room_left());
@@ -37,12 +37,12 @@ fn numbers_that_are_no_store() {
 #[test]
 fn desks() {
     let mut store = opened();
-    refused(2, &mut store, |s| s.open(Desk(8), 3, 2, 1));
+    refused(2, &mut store, |s| s.open(Desk(8), 3, 2, PLAIN_WEIGHT, 1));
     refused(2, &mut store, |s| s.close(Desk(u32::MAX)));
-    refused(3, &mut store, |s| s.open(DESK, 3, 2, 1));
+    refused(3, &mut store, |s| s.open(DESK, 3, 2, PLAIN_WEIGHT, 1));
     refused(4, &mut store, |s| s.close(Desk(1)));
     refused(4, &mut store, |s| s.report(Desk(7)));
-    store.open(Desk(7), 3, 2, 1).unwrap();
+    store.open(Desk(7), 3, 2, PLAIN_WEIGHT, 1).unwrap();
     store.close(Desk(7)).unwrap();
 }
 
@@ -50,13 +50,33 @@ fn desks() {
 fn openings() {
     let mut store = opened();
     for (alphabet, depth) in [(1, 0), (9, 0), (2, 7)] {
-        refused(5, &mut store, |s| s.open(Desk(1), alphabet, depth, 1));
+        refused(5, &mut store, |s| s.open(Desk(1), alphabet, depth, PLAIN_WEIGHT, 1));
     }
-    refused(6, &mut store, |s| s.open(Desk(1), 8, 6, 0));
-    refused(6, &mut store, |s| s.open(Desk(1), 8, 6, 13));
-    refused(7, &mut store, |s| s.open(Desk(1), 8, 6, 8));
-    store.open(Desk(1), 8, 6, 7).unwrap();
+    refused(6, &mut store, |s| s.open(Desk(1), 8, 6, PLAIN_WEIGHT, 0));
+    refused(6, &mut store, |s| s.open(Desk(1), 8, 6, PLAIN_WEIGHT, 13));
+    refused(7, &mut store, |s| s.open(Desk(1), 8, 6, PLAIN_WEIGHT, 8));
+    store.open(Desk(1), 8, 6, PLAIN_WEIGHT, 7).unwrap();
     assert_eq!(store.room_left(), Ok(0));
+}
+
+/// 20 goes after 2, 3 and 5, and before 6 and 7.
+#[test]
+fn weights() {
+    let mut store = opened();
+    for weight in [LARGEST_WEIGHT + 1, LARGEST_WEIGHT + 16, 1 << 8, 1 << 16, 1 << 31, u32::MAX] {
+        refused(2, &mut store, |s| s.open(Desk(8), 8, 6, weight, 1));
+        refused(3, &mut store, |s| s.open(DESK, 8, 6, weight, 1));
+        refused(5, &mut store, |s| s.open(Desk(1), 9, 6, weight, 1));
+        refused(5, &mut store, |s| s.open(Desk(1), 8, 7, weight, 1));
+        for reservation in [0, 1, 7, 8, 13] {
+            refused(20, &mut store, |s| s.open(Desk(1), 8, 6, weight, reservation));
+        }
+    }
+    for weight in 0..=LARGEST_WEIGHT {
+        refused(6, &mut store, |s| s.open(Desk(1), 8, 6, weight, 0));
+        store.open(Desk(1), 8, 6, weight, 7).unwrap();
+        store.close(Desk(1)).unwrap();
+    }
 }
 
 #[test]
@@ -76,14 +96,14 @@ fn samples_symbols_and_contexts() {
 #[test]
 fn the_longest_sample() {
     let mut store = Store::new(1).unwrap();
-    store.open(DESK, 2, 0, 1).unwrap();
+    store.open(DESK, 2, 0, PLAIN_WEIGHT, 1).unwrap();
     let stopped = store.feed_all(DESK, Sample::FIRST, &[1; LONGEST + 1]).unwrap_err();
     assert_eq!((stopped.accepted as usize, stopped.refusal.number()), (LONGEST, 9));
     refused(9, &mut store, |s| s.feed(DESK, Sample::FIRST, 0));
     store.feed_all(DESK, Sample::SECOND, &[1; LONGEST]).unwrap();
     let report = store.report(DESK).unwrap();
     let row = Row { kind: Kind::Shared, context: Context::of(&[]).unwrap(), counts: [0, 2 * LONGEST as u32, 0, 0, 0, 0, 0, 0] };
-    assert_eq!((report.rows, report.score), (vec![row], -12288));
+    assert_eq!((report.rows, report.score), (vec![row], -49152));
 }
 
 #[test]
@@ -144,7 +164,7 @@ fn files() {
 #[test]
 fn charts_and_kept_stores() {
     let mut store = Store::new(8).unwrap();
-    store.open(DESK, 2, 1, 8).unwrap();
+    store.open(DESK, 2, 1, PLAIN_WEIGHT, 8).unwrap();
     let zero = Context::of(&[0]).unwrap();
     assert_eq!(store.chart(DESK, zero, 1), Ok(Chart::Neither));
     store.feed_all(DESK, Sample::SECOND, &[0, 1, 0, 0]).unwrap();
