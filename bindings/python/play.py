@@ -109,7 +109,7 @@ class Player:
 # Each call at its opcode, and how many numbers follow it; those of feed_all end in how many more follow.
 CALLS = [
     (Player.make, 2),
-    (Player.open, 4),
+    (Player.open, 5),
     (Player.feed, 3),
     (Player.close, 1),
     (Player.room, 0),

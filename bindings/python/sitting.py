@@ -8,7 +8,7 @@ import sys
 from array import array
 from pathlib import Path
 
-from sobumikeyo import ROW_WIDTH, Refusal, Sample, Store, read
+from sobumikeyo import PLAIN_WEIGHT, ROW_WIDTH, Refusal, Sample, Store, read
 
 sys.path.append(str(Path(__file__).resolve().parents[2]))
 
@@ -23,7 +23,7 @@ SHEET_ROWS = 512
 def report_lines(file):
     sitting = read(file)
     store = Store(ROOM)
-    store.open(0, sitting.alphabet, sitting.depth, ROOM)
+    store.open(0, sitting.alphabet, sitting.depth, PLAIN_WEIGHT, ROOM)
     store.feed_all(0, Sample.FIRST, sitting.first)
     store.feed_all(0, Sample.SECOND, sitting.second)
     sheet = array("I", bytes(4 * ROW_WIDTH * SHEET_ROWS))

@@ -7,14 +7,14 @@ contexts that are one sample's own.
 Each sample counts its symbols from place depth + 1 on, for contexts of every length, so that deep and
 shallow trees are scored over the same acts. The symbols before that place are only what came just before.
 
->>> from sobumikeyo import Kind, Sample, Store
+>>> from sobumikeyo import PLAIN_WEIGHT, Kind, Sample, Store
 >>> store = Store(64)
->>> store.open(0, alphabet=2, depth=1, reservation=64)
+>>> store.open(0, alphabet=2, depth=1, weight=PLAIN_WEIGHT, reservation=64)
 >>> store.feed_all(0, Sample.FIRST, [0, 1, 0, 1, 0, 1, 0, 1])
 >>> store.feed_all(0, Sample.SECOND, [0, 0, 1, 0, 0, 1, 0, 0])
 >>> report = store.report(0)
 >>> report.score
--20176
+-80704
 >>> [(row.context.symbols(), row.counts[:2]) for row in report.rows if row.kind is Kind.SHARED]
 [((1,), (5, 0))]
 
@@ -28,9 +28,11 @@ from sobumikeyo.charts import Chart
 from sobumikeyo.files import Lost, Salvaged, SittingFile, read, salvage, write
 from sobumikeyo.refusals import Refusal, Stopped
 from sobumikeyo.reports import ROW_WIDTH, Context, Kind, Report, Row
-from sobumikeyo.store import Sample, Store, store_size
+from sobumikeyo.store import LARGEST_WEIGHT, PLAIN_WEIGHT, Sample, Store, store_size
 
 __all__ = [
+    "LARGEST_WEIGHT",
+    "PLAIN_WEIGHT",
     "ROW_WIDTH",
     "Chart",
     "Context",

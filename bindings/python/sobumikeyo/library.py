@@ -16,7 +16,7 @@ OUT = [POINTER(c_uint32)]
 # Each function's answer and its arguments.
 FUNCTIONS = {
     "make": (c_uint32, STORE + NUMBERS),
-    "open": (c_uint32, STORE + 4 * NUMBERS),
+    "open": (c_uint32, STORE + 5 * NUMBERS),
     "feed": (c_uint32, STORE + 3 * NUMBERS),
     "feed_all": (c_uint32, STORE + 2 * NUMBERS + BYTES + OUT),
     "close": (c_uint32, STORE + NUMBERS),

@@ -137,6 +137,10 @@ WORDS = {
         "The bytes lent are fewer than the file to be written or saved has.",
         "Lend as many bytes as the two samples have symbols and 6 more; for a salvage, as many as the damaged file has.",
     ),
+    20: (
+        "The weight is outside its limits.",
+        "Name a weight from 0 to 16 quarters; 4 is the plain penalty.",
+    ),
     24: (
         "A sample has symbols, but no more than the depth, so none of them counts.",
         "Feed each of the two samples more symbols than the depth before the report, or take a smaller depth.",

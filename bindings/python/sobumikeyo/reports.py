@@ -59,8 +59,13 @@ class Row(NamedTuple):
 
 
 class Report(NamedTuple):
-    """The joint estimate of a sitting: rows in the order of their contexts, and the doubled score, which
-    is never above 0."""
+    """The joint estimate of a sitting: rows in the order of their contexts, and the score, which is never
+    above 0.
+
+    The score is the sum of each row's fit less its cost. With counts c and total t the fit is eightfold,
+    8 * (the sum of c * L(c), less t * L(t)), and the cost weight * (A-1) * L(the length of its sample, or of
+    both where shared). L(n) is 1,024 times the logarithm of n to base 2, rounded down.
+    """
 
     rows: tuple
     score: int

@@ -7,13 +7,19 @@ from threading import RLock
 from sobumikeyo.arguments import array_of, byte_run, instance, number, sheet_of, whole_numbers
 from sobumikeyo.charts import Chart
 from sobumikeyo.library import calls
-from sobumikeyo.refusals import Stopped, refuse_unless_zero
+from sobumikeyo.refusals import Refusal, Stopped, refuse_unless_zero
 from sobumikeyo.reports import ROW_WIDTH, Context, Report, row_of
 
+PLAIN_WEIGHT = 4  # a weight is a whole number of quarters
+LARGEST_WEIGHT = 16
 LARGEST_ROOM = 4096
-# Twice the program's sheet, which some reports on three symbols pass. By estimate what a row costs keeps reports of strings
-# below 600.
+# Twice the program's sheet, which some reports on three symbols pass. By estimate what a row costs at the plain weight keeps
+# reports of strings below 600; at small weights there may be more.
 SHEET_ROWS = 1024
+# No report passes these, by an argument on paper: a tree has one leaf and at most seven more for each split, only contexts that
+# are held are split, and there are two trees.
+MOST_ROWS = 2 * (1 + 7 * LARGEST_ROOM)
+SHEET_SHORT = 12
 
 
 def store_size(room):
@@ -43,8 +49,8 @@ class Store:
     share a store, at one desk or at several. A copy, also by pickle, is a store of its own.
 
     >>> store = Store(100)
-    >>> store.open(0, alphabet=2, depth=1, reservation=60)
-    >>> store.open(1, alphabet=3, depth=2, reservation=40)
+    >>> store.open(0, alphabet=2, depth=1, weight=PLAIN_WEIGHT, reservation=60)
+    >>> store.open(1, alphabet=3, depth=2, weight=2 * PLAIN_WEIGHT, reservation=40)
     >>> store.feed(0, Sample.FIRST, 1)
     >>> store.feed(1, Sample.FIRST, 2)
     >>> store.close(0)
@@ -91,10 +97,24 @@ class Store:
         """Makes the store anew, whatever it was; refusals 17 and 18."""
         refuse_unless_zero(self._call("make", number(room, "room")))
 
-    def open(self, desk, alphabet, depth, reservation):
+    def open(self, desk, alphabet, depth, weight, reservation):
         """Opens a desk for symbols below `alphabet` and contexts of up to `depth` symbols. The sitting may
-        have `reservation` contexts."""
-        opening = named(desk=desk, alphabet=alphabet, depth=depth, reservation=reservation)
+        have `reservation` contexts.
+
+        `weight` is what a report's contexts are charged by, until the desk is closed: a whole number of
+        quarters from 0 to 16 (LARGEST_WEIGHT), where 4 (PLAIN_WEIGHT) is the plain penalty; any other gets
+        refusal 20. 0 makes deep splits free, and the tie rules decide then.
+
+        >>> store = Store(6)
+        >>> for desk, weight in enumerate([0, LARGEST_WEIGHT]):
+        ...     store.open(desk, alphabet=2, depth=1, weight=weight, reservation=3)
+        ...     store.feed_all(desk, Sample.FIRST, [0, 1, 0, 1])
+        ...     store.feed_all(desk, Sample.SECOND, [0, 0, 1, 1])
+        ...     len(store.report(desk).rows)
+        4
+        1
+        """
+        opening = named(desk=desk, alphabet=alphabet, depth=depth, weight=weight, reservation=reservation)
         refuse_unless_zero(self._call("open", *opening))
 
     def feed(self, desk, sample, symbol):
@@ -103,7 +123,7 @@ class Store:
         sample has more than `depth` symbols: that feed adds depth + 1 at once, a later one at most `depth`.
 
         >>> store = Store(2)
-        >>> store.open(0, alphabet=2, depth=2, reservation=2)
+        >>> store.open(0, alphabet=2, depth=2, weight=PLAIN_WEIGHT, reservation=2)
         >>> store.feed_all(0, Sample.FIRST, [0, 1])
         >>> store.feed(0, Sample.FIRST, 0)
         Traceback (most recent call last):
@@ -135,7 +155,7 @@ class Store:
         report is refused with 11, and where one has no more than the depth with 24.
 
         >>> store = Store(8)
-        >>> store.open(0, alphabet=2, depth=1, reservation=8)
+        >>> store.open(0, alphabet=2, depth=1, weight=PLAIN_WEIGHT, reservation=8)
         >>> for sample in Sample:
         ...     store.feed(0, sample, 0)
         >>> store.report(0)
@@ -144,9 +164,18 @@ class Store:
         >>> for sample in Sample:
         ...     store.feed(0, sample, 0)
         >>> store.report(0).score
-        -2048
+        -8192
         """
-        sheet = (c_uint32 * (SHEET_ROWS * ROW_WIDTH))()
+        try:
+            return self._report_within(desk, SHEET_ROWS)
+        except Refusal as refusal:
+            if refusal.number != SHEET_SHORT:
+                raise
+        return self._report_within(desk, MOST_ROWS)
+
+    def _report_within(self, desk, sheet_rows):
+        """The report on a sheet of so many rows."""
+        sheet = (c_uint32 * (sheet_rows * ROW_WIDTH))()
         rows, score = self.report_on(desk, sheet, 0)
         return Report(tuple(row_of(sheet[ROW_WIDTH * row : ROW_WIDTH * (row + 1)]) for row in range(rows)), score)
 
@@ -163,7 +192,7 @@ class Store:
 
         >>> from sobumikeyo import Context
         >>> store = Store(8)
-        >>> store.open(0, alphabet=2, depth=1, reservation=8)
+        >>> store.open(0, alphabet=2, depth=1, weight=PLAIN_WEIGHT, reservation=8)
         >>> store.feed_all(0, Sample.FIRST, [0, 1, 0, 0])
         >>> store.chart(0, Context.of([0]), 1)
         Chart(first=0.5, second=None, gap=None)

@@ -5,7 +5,7 @@ from array import array
 from io import BytesIO, StringIO
 from pathlib import Path
 
-from sobumikeyo import ROW_WIDTH, Context, Refusal, Sample, Store, read, salvage, store_size, write
+from sobumikeyo import PLAIN_WEIGHT, ROW_WIDTH, Context, Refusal, Sample, Store, read, salvage, store_size, write
 
 EMPTY = Context.of([])
 SHEET = array("I", [0] * ROW_WIDTH * 8)
@@ -16,14 +16,14 @@ NO_RUNS = (None, 5, 0.5, "010", Path("x"), StringIO("010"), BytesIO(b"\0\1"), {0
 
 def opened():
     store = Store(12)
-    store.open(0, 3, 2, 5)
+    store.open(0, 3, 2, PLAIN_WEIGHT, 5)
     return store
 
 
 # Each call by its name, with arguments that are right, by their names; each is in turn made wrong.
 CALLS = {
     "make": {"room": 12},
-    "open": {"desk": 1, "alphabet": 3, "depth": 2, "reservation": 5},
+    "open": {"desk": 1, "alphabet": 3, "depth": 2, "weight": PLAIN_WEIGHT, "reservation": 5},
     "feed": {"desk": 0, "sample": Sample.FIRST, "symbol": 0},
     "feed_all": {"desk": 0, "sample": Sample.FIRST, "symbols": [0]},
     "close": {"desk": 0},
@@ -77,7 +77,7 @@ class Arguments(unittest.TestCase):
         runs = [[0, 1], (0, 1), b"\0\1", bytearray([0, 1]), memoryview(b"\0\1"), array("I", [0, 1]), iter([0, 1]), range(2)]
         for symbols in runs:
             store = Store(1)
-            store.open(0, alphabet=2, depth=0, reservation=1)
+            store.open(0, alphabet=2, depth=0, weight=PLAIN_WEIGHT, reservation=1)
             store.feed_all(0, Sample.FIRST, symbols)
             self.assertEqual(store.chart(0, EMPTY, 1).first, 0.5)
 

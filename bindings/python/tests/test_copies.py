@@ -4,7 +4,7 @@ import copy
 import pickle
 import unittest
 
-from sobumikeyo import Refusal, Sample, Stopped, Store
+from sobumikeyo import PLAIN_WEIGHT, Refusal, Sample, Stopped, Store
 from sobumikeyo.refusals import WORDS
 
 
@@ -24,7 +24,7 @@ class Copies(unittest.TestCase):
         for made in COPIES:
             for kind in (Store, Own):
                 store = kind(8)
-                store.open(0, 2, 1, 8)
+                store.open(0, 2, 1, PLAIN_WEIGHT, 8)
                 store.feed_all(0, Sample.FIRST, [0, 1, 0])
                 before = store.numbers()
                 other = made(store)
@@ -57,7 +57,7 @@ class Copies(unittest.TestCase):
 
     def test_what_calls_raise(self):
         store = Store(2)
-        store.open(0, 2, 1, 2)
+        store.open(0, 2, 1, PLAIN_WEIGHT, 2)
         with self.assertRaises(Stopped) as stopped:
             store.feed_all(0, Sample.FIRST, [0, 1, 0, 1])
         one = pickle.loads(pickle.dumps(stopped.exception))

@@ -5,7 +5,7 @@ import unittest
 from array import array
 from itertools import product
 
-from sobumikeyo import ROW_WIDTH, Chart, Context, Kind, Refusal, Sample, Stopped, Store, store_size
+from sobumikeyo import PLAIN_WEIGHT, ROW_WIDTH, Chart, Context, Kind, Refusal, Sample, Stopped, Store, store_size
 
 HEADER = store_size(0)
 DEPTH = 18  # of desk 0, among a store's numbers (crates/store/specs/Layout)
@@ -17,7 +17,7 @@ BOTH = Chart(1.0, 1.0, 0.0)
 def sitting(depth, reservation, first, second=None):
     """A sitting with so many contexts reserved, both of whose samples are fed the same symbols where no others are named."""
     store = Store(reservation)
-    store.open(0, alphabet=3, depth=depth, reservation=reservation)
+    store.open(0, alphabet=3, depth=depth, weight=PLAIN_WEIGHT, reservation=reservation)
     store.feed_all(0, Sample.FIRST, first)
     store.feed_all(0, Sample.SECOND, first if second is None else second)
     return store
@@ -68,10 +68,10 @@ class Counted(unittest.TestCase):
 
     def test_costs_go_by_the_whole_lengths(self):
         """Three acts of each at depth 2, of which one counts, with A 3."""
-        # a shared context at 2 L(6) costs less than two own ones at 2 L(3)
-        self.assertEqual(reported(sitting(2, 3, [0, 1, 0])), ([(Kind.SHARED, 0, 2)], -5294))
+        # a shared context at 4 * 2 L(6) costs less than two own ones at 4 * 2 L(3)
+        self.assertEqual(reported(sitting(2, 3, [0, 1, 0])), ([(Kind.SHARED, 0, 2)], -21176))
         rows = [(Kind.FIRST, 0, 1), (Kind.SECOND, 0, 1)]
-        self.assertEqual(reported(sitting(2, 3, [0, 1, 2], [0, 1, 0])), (rows, -6492))
+        self.assertEqual(reported(sitting(2, 3, [0, 1, 2], [0, 1, 0])), (rows, -25968))
 
     def test_the_first_that_is_counted(self):
         for depth in range(DEEPEST + 1):

@@ -1,16 +1,16 @@
 """Document 01's marked examples, J2 as request E3 works it anew, since places are counted from D+1 on, and J5 as request E8
-does: samples no longer than D get no report."""
+does: samples no longer than D get no report. Scores are those of request E5 at the plain weight."""
 
 import unittest
 
-from sobumikeyo import Chart, Context, Kind, Refusal, Sample, Stopped, Store
+from sobumikeyo import PLAIN_WEIGHT, Chart, Context, Kind, Refusal, Sample, Stopped, Store
 
 SHARED, FIRST, SECOND = Kind
 
 
 def sitting(depth, first, second):
     store = Store(3)
-    store.open(0, 2, depth, 3)
+    store.open(0, 2, depth, PLAIN_WEIGHT, 3)
     store.feed_all(0, Sample.FIRST, first)
     store.feed_all(0, Sample.SECOND, second)
     return store
@@ -29,7 +29,7 @@ class Marked(unittest.TestCase):
 
     def test_j1_two_shared_contexts(self):
         told = report(1, [0, 1, 0, 1], [0, 1, 0, 1])
-        self.check(told, [(SHARED, [0], (0, 4)), (SHARED, [1], (2, 0))], -6144)
+        self.check(told, [(SHARED, [0], (0, 4)), (SHARED, [1], (2, 0))], -24576)
         self.assertEqual(told.first_tree(), told.second_tree())
 
     def test_j1_empty_context(self):
@@ -39,24 +39,24 @@ class Marked(unittest.TestCase):
 
     def test_j1_needs_three_contexts(self):
         store = Store(2)
-        store.open(0, 2, 1, 2)
+        store.open(0, 2, 1, PLAIN_WEIGHT, 2)
         with self.assertRaises(Stopped) as stopped:
             store.feed_all(0, Sample.FIRST, [0, 1, 0, 1])
         self.assertEqual((stopped.exception.accepted, stopped.exception.number), (2, 10))
 
     def test_j2_all_their_own(self):
         told = report(1, [0, 1, 0, 1], [0, 0, 0, 0])
-        self.check(told, [(SECOND, [], (3, 0)), (FIRST, [0], (0, 2)), (FIRST, [1], (1, 0))], -6144)
+        self.check(told, [(SECOND, [], (3, 0)), (FIRST, [0], (0, 2)), (FIRST, [1], (1, 0))], -24576)
         self.assertEqual((len(told.first_tree()), len(told.second_tree())), (2, 1))
 
     def test_j3_one_habit_shared(self):
         told = report(1, [0, 1, 0, 1, 0, 1, 0, 1], [0, 0, 1, 0, 0, 1, 0, 0])
-        self.check(told, [(FIRST, [0], (0, 4)), (SECOND, [0], (3, 2)), (SHARED, [1], (5, 0))], -20176)
+        self.check(told, [(FIRST, [0], (0, 4)), (SECOND, [0], (3, 2)), (SHARED, [1], (5, 0))], -80704)
         self.assertEqual([row.kind for row in told.first_tree()], [FIRST, SHARED])
         self.assertEqual([row.kind for row in told.second_tree()], [SECOND, SHARED])
 
     def test_j4_no_memory(self):
-        self.check(report(0, [0, 1, 0, 1], [0, 1, 0, 1]), [(SHARED, [], (4, 4))], -19456)
+        self.check(report(0, [0, 1, 0, 1], [0, 1, 0, 1]), [(SHARED, [], (4, 4))], -77824)
 
     def test_j5_no_longer_than_the_depth(self):
         with self.assertRaises(Refusal) as refused:

@@ -4,7 +4,8 @@ import re
 import unittest
 from array import array
 
-from sobumikeyo import ROW_WIDTH, Chart, Context, Kind, Refusal, Row, Sample, Stopped, Store, read, store_size
+from sobumikeyo import LARGEST_WEIGHT, PLAIN_WEIGHT, ROW_WIDTH
+from sobumikeyo import Chart, Context, Kind, Refusal, Row, Sample, Stopped, Store, read, store_size
 from sobumikeyo.refusals import WORDS
 from tests import REPOSITORY
 
@@ -16,7 +17,7 @@ TOO_LONG = (0x81, 0x10)  # 2,049 in a file
 def opened():
     """A store of room 12 with desk 0 open: three symbols, depth 2, five contexts reserved."""
     store = Store(12)
-    store.open(0, 3, 2, 5)
+    store.open(0, 3, 2, PLAIN_WEIGHT, 5)
     return store
 
 
@@ -32,7 +33,7 @@ class Refusals(unittest.TestCase):
     def test_numbers_that_are_no_store(self):
         store = Store.of_numbers([7] * 3000)
         self.assertFalse(store.is_sound())
-        self.refused(1, store, "open", 9, 9, 9, 0)
+        self.refused(1, store, "open", 9, 9, 9, 17, 0)
         self.refused(1, store, "feed", 0, Sample.FIRST, 0)
         self.refused(1, store, "feed_all", 0, Sample.FIRST, [0])
         self.refused(1, store, "close", 0)
@@ -45,23 +46,38 @@ class Refusals(unittest.TestCase):
 
     def test_desks(self):
         store = opened()
-        self.refused(2, store, "open", 8, 3, 2, 1)
+        self.refused(2, store, "open", 8, 3, 2, PLAIN_WEIGHT, 1)
         self.refused(2, store, "close", 2**32 - 1)
-        self.refused(3, store, "open", 0, 3, 2, 1)
+        self.refused(3, store, "open", 0, 3, 2, PLAIN_WEIGHT, 1)
         self.refused(4, store, "close", 1)
         self.refused(4, store, "report", 7)
-        store.open(7, 3, 2, 1)
+        store.open(7, 3, 2, PLAIN_WEIGHT, 1)
         store.close(7)
 
     def test_openings(self):
         store = opened()
         for alphabet, depth in ((1, 0), (9, 0), (2, 7)):
-            self.refused(5, store, "open", 1, alphabet, depth, 1)
-        self.refused(6, store, "open", 1, 8, 6, 0)
-        self.refused(6, store, "open", 1, 8, 6, 13)
-        self.refused(7, store, "open", 1, 8, 6, 8)
-        store.open(1, 8, 6, 7)
+            self.refused(5, store, "open", 1, alphabet, depth, PLAIN_WEIGHT, 1)
+        self.refused(6, store, "open", 1, 8, 6, PLAIN_WEIGHT, 0)
+        self.refused(6, store, "open", 1, 8, 6, PLAIN_WEIGHT, 13)
+        self.refused(7, store, "open", 1, 8, 6, PLAIN_WEIGHT, 8)
+        store.open(1, 8, 6, PLAIN_WEIGHT, 7)
         self.assertEqual(store.room_left(), 0)
+
+    def test_weights(self):
+        """20 goes after 2, 3 and 5, and before 6 and 7."""
+        store = opened()
+        for weight in (LARGEST_WEIGHT + 1, LARGEST_WEIGHT + 16, 2**8, 2**16, 2**31, 2**32 - 1):
+            self.refused(2, store, "open", 8, 8, 6, weight, 1)
+            self.refused(3, store, "open", 0, 8, 6, weight, 1)
+            self.refused(5, store, "open", 1, 9, 6, weight, 1)
+            self.refused(5, store, "open", 1, 8, 7, weight, 1)
+            for reservation in (0, 1, 7, 8, 13):
+                self.refused(20, store, "open", 1, 8, 6, weight, reservation)
+        for weight in range(LARGEST_WEIGHT + 1):
+            self.refused(6, store, "open", 1, 8, 6, weight, 0)
+            store.open(1, 8, 6, weight, 7)
+            store.close(1)
 
     def test_samples_symbols_and_contexts(self):
         store = opened()
@@ -78,14 +94,14 @@ class Refusals(unittest.TestCase):
 
     def test_longest_sample(self):
         store = Store(1)
-        store.open(0, 2, 0, 1)
+        store.open(0, 2, 0, PLAIN_WEIGHT, 1)
         with self.assertRaises(Stopped) as stopped:
             store.feed_all(0, Sample.FIRST, [1] * (LONGEST + 1))
         self.assertEqual((stopped.exception.accepted, stopped.exception.number), (LONGEST, 9))
         self.refused(9, store, "feed", 0, Sample.FIRST, 0)
         store.feed_all(0, Sample.SECOND, [1] * LONGEST)
         rows, score = store.report(0)
-        self.assertEqual((rows, score), ((Row(Kind.SHARED, EMPTY, (0, 2 * LONGEST, 0, 0, 0, 0, 0, 0)),), -12288))
+        self.assertEqual((rows, score), ((Row(Kind.SHARED, EMPTY, (0, 2 * LONGEST, 0, 0, 0, 0, 0, 0)),), -49152))
 
     def test_past_the_reservation(self):
         store = opened()
@@ -137,7 +153,7 @@ class Refusals(unittest.TestCase):
 
     def test_charts_and_kept_stores(self):
         store = Store(8)
-        store.open(0, 2, 1, 8)
+        store.open(0, 2, 1, PLAIN_WEIGHT, 8)
         zero = Context.of([0])
         self.assertEqual(store.chart(0, zero, 1), Chart())
         store.feed_all(0, Sample.SECOND, [0, 1, 0, 0])
@@ -161,7 +177,7 @@ class Refusals(unittest.TestCase):
         table = (REPOSITORY / "docs" / "REFUSALS.md").read_text()
         rows = re.findall(r"^\| (\d+) \| (.*) \| (.*) \|$", table, re.MULTILINE)
         self.assertEqual(WORDS, {int(number): (happened, advice) for number, happened, advice in rows})
-        self.assertEqual(sorted(WORDS), [*range(1, 20), 24])
+        self.assertEqual(sorted(WORDS), [*range(1, 21), 24])
 
 
 if __name__ == "__main__":

@@ -9,7 +9,7 @@ from random import Random
 from threading import Barrier, Lock
 from unittest.mock import patch
 
-from sobumikeyo import Context, Sample, Store
+from sobumikeyo import PLAIN_WEIGHT, Context, Sample, Store
 from sobumikeyo.library import calls
 
 DESKS = 4
@@ -20,7 +20,7 @@ LATER = 1e-6  # how soon Python may turn to another thread
 
 def sitting(store, desk, drawn):
     """One sitting at a desk of a store, from its opening to its closing; its report."""
-    store.open(desk, alphabet=3, depth=3, reservation=ROOM // DESKS)
+    store.open(desk, alphabet=3, depth=3, weight=PLAIN_WEIGHT, reservation=ROOM // DESKS)
     for sample in Sample:
         store.feed_all(desk, sample, drawn.choices(range(3), k=50))
         for symbol in drawn.choices(range(3), k=10):
@@ -79,7 +79,7 @@ class Threads(unittest.TestCase):
 
         def call(desk):
             for _ in range(5):
-                store.open(desk, 3, 3, 1)
+                store.open(desk, 3, 3, PLAIN_WEIGHT, 1)
                 store.feed(desk, Sample.FIRST, 0)
                 store.feed_all(desk, Sample.FIRST, [0])
                 store.chart(desk, Context.of([]), 0)
