@@ -1,5 +1,5 @@
-"""The weight of the penalty: J3's samples have another triple at each of the weights 0, 4 and 16, worked out by hand. L(2) is 1024,
-L(3) 1623, L(5) 2377, L(6) 2647, L(8) 3072, L(14) 3898 and L(16) 4096."""
+"""The weight of the penalty: J3's samples have another triple at each of the weights 0, 4 and 16, worked out by hand. L(2) is
+1024, L(3) 1623, L(5) 2377, L(6) 2647, L(8) 3072, L(14) 3898 and L(16) 4096."""
 
 import unittest
 from math import floor, log2
@@ -13,15 +13,16 @@ WEIGHT = 19  # of desk 0, among a store's numbers (crates/store/specs/Layout)
 
 # Eightfold: after 0 the reference had three 0 and two 1. No other context of the two trees of depth 1 has two symbols after it.
 FIT_AFTER_0 = 8 * (3 * 1623 + 2 * 1024 - 5 * 2377)
-# Both trees of depth 1 cost nothing and fit as well apart as with a shared context, and two separate trees go before a split of both.
+# Both trees of depth 1 cost nothing and fit as well apart as with a shared context, and two separate trees go before a split
+# of both.
 AT_0 = [(FIRST, (0,), (0, 4)), (SECOND, (0,), (3, 2)), (FIRST, (1,), (3, 0)), (SECOND, (1,), (2, 0))], FIT_AFTER_0
 # Two contexts of their own at 4 L(8) and a shared one at 4 L(16).
 AT_4 = [(FIRST, (0,), (0, 4)), (SECOND, (0,), (3, 2)), (SHARED, (1,), (5, 0))], FIT_AFTER_0 - 4 * (2 * 3072 + 4096)
 # One context at 16 L(16), which loses less by its fit than any other would cost.
 AT_16 = [(SHARED, (), (8, 6))], 8 * (8 * 3072 + 6 * 2647 - 14 * 3898) - 16 * 4096
 
-# Every admissible triple of depth 1: the counts of its contexts with both symbols after them, how many of its contexts are shared, and
-# how many are own.
+# Every admissible triple of depth 1: the counts of its contexts with both symbols after them, how many of its contexts are
+# shared, and how many are own.
 TRIPLES = [
     ([(8, 6)], 1, 0),  # shared {empty}
     ([(3, 4), (5, 2)], 0, 2),  # own {empty} and {empty}
