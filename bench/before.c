@@ -19,7 +19,7 @@ int main(int words, char **word) {
              same_report(of_now[k], of_before[k]) ? "the same rows and score" : "ANOTHER REPORT");
         for (int i = 0; i < CALLS; i++) {
             job pair[] = {now[CALLS * k + i], before[CALLS * k + i]};
-            race_or_count(pair, 2, i < 3 ? QUICK : SLOW);
+            race_or_count(pair, 2, i == FEEDS ? SLOW : QUICK);
             line(pair[0].ns / pair[1].ns, 0, "    %s: times as long as before (%.0f ns by %.0f)", calls[i], pair[0].ns, pair[1].ns);
         }
     }

@@ -29,7 +29,7 @@ static void feed_run(void *with) {
 
 static void open_7(void *with) {
     filled *f = with;
-    answer = sobumikeyo_open(f->numbers, f->len, 7, 4, 4, 1);
+    answer = sobumikeyo_open(f->numbers, f->len, 7, 4, 4, SOBUMIKEYO_PLAIN_WEIGHT, 1);
 }
 
 static void close_0(void *with) {
@@ -46,7 +46,7 @@ static void ask_room(void *with) {
 // The context of the three most recent symbols of desk 0's first sample.
 static void chart(void *with) {
     filled *f = with;
-    const uint32_t *recent = f->numbers + 16 + 6;
+    const uint32_t *recent = f->numbers + 16 + 7;
     uint32_t seen, code = recent[0] + 8 * recent[1] + 64 * recent[2];
     double first, second, gap;
     answer = sobumikeyo_chart(f->numbers, f->len, 0, 3, code, 0, &seen, &first, &second, &gap);

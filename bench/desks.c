@@ -49,7 +49,7 @@ static filled at_desks(uint32_t desks) {
         uint32_t quota = LIVE * (desks - desk) / desks - f.numbers[1];
         open_and_fill(&f, desk, DEEPEST, quota, (habit){MOST_DESKS, 2, 0});
     }
-    f.numbers[16 + 3] += 2 * DEEPEST;
+    *reservation(&f, 0) += 2 * DEEPEST;
     memcpy(f.kept, f.numbers, f.len * sizeof *f.kept);
     must(sobumikeyo_sound(f.numbers, f.len), "a sound store");
     must(sobumikeyo_feed(f.numbers, f.len, 0, 0, 0) == 0, "a feed");

@@ -35,7 +35,7 @@ static volatile uint64_t sink;
 static void begin(void *with) {
     sitting *at = with;
     must(sobumikeyo_make(at->fed, LEN, ROOM) == 0, "make");
-    must(sobumikeyo_open(at->fed, LEN, 0, at->s.alphabet, at->s.depth, ROOM) == 0, "open");
+    must(open_plain(at->fed, LEN, 0, at->s.alphabet, at->s.depth, ROOM) == 0, "open");
 }
 
 static void feed_all(void *with) {
@@ -56,7 +56,7 @@ static void test(void *with) {
 static uint32_t contexts(const sitting *at) { return at->store[1]; }
 
 static void agree(const sitting *at) {
-    plain_start(&twin, at->s.alphabet, at->s.depth);
+    plain_start(&twin, at->s.alphabet, at->s.depth, SOBUMIKEYO_PLAIN_WEIGHT);
     for (uint32_t i = 0; i < 2; i++) plain_feed_all(&twin, i, text[i], at->many);
     must(contexts(at) == plain_held(&twin), "contexts held as in plain C");
     must(plain_report(&twin, plain_sheet, &plain_score) == rows && plain_score == score, "row count and score as in plain C");

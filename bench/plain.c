@@ -2,19 +2,20 @@
 #include <math.h>
 #include <string.h>
 
-static int64_t weight[2 * LONGEST + 1]; // n times L(n)
 static int64_t L[2 * LONGEST + 1];
+static int64_t times_L[2 * LONGEST + 1]; // n times L(n)
 
 void plain_logarithms(uint32_t largest) {
     for (uint32_t n = 1; n <= largest; n++) {
         L[n] = (int64_t)floorl(1024 * log2l(n));
-        weight[n] = n * L[n];
+        times_L[n] = n * L[n];
     }
 }
 
-void plain_start(trie *t, uint32_t alphabet, uint32_t depth) {
+void plain_start(trie *t, uint32_t alphabet, uint32_t depth, uint32_t weight) {
     t->alphabet = alphabet;
     t->depth = depth;
+    t->weight = weight;
     t->used = 1;
     t->size[0] = t->size[1] = 0;
     memset(&t->nodes[ROOT], 0, sizeof(node));
@@ -62,10 +63,10 @@ static int64_t spread(const uint32_t *count, const uint32_t *other, uint32_t alp
     uint32_t total = 0;
     for (uint32_t a = 0; a < alphabet; a++) {
         uint32_t c = count[a] + (other ? other[a] : 0);
-        sum += weight[c];
+        sum += times_L[c];
         total += c;
     }
-    return 2 * (weight[total] - sum);
+    return 8 * (times_L[total] - sum);
 }
 
 // The leaf, or the children where they lose less. Ties: shared leaf, two separate trees, split of both; leaf before split.
@@ -127,9 +128,10 @@ static uint32_t *put_rows(const trie *t, uint32_t *to, const node *n, uint32_t l
 }
 
 uint32_t plain_report(trie *t, uint32_t *sheet, int64_t *score) {
-    costs[0] = (t->alphabet - 1) * L[t->size[0] + t->size[1]];
-    costs[1] = (t->alphabet - 1) * L[t->size[0]];
-    costs[2] = (t->alphabet - 1) * L[t->size[1]];
+    int64_t each = t->weight * (t->alphabet - 1);
+    costs[0] = each * L[t->size[0] + t->size[1]];
+    costs[1] = each * L[t->size[0]];
+    costs[2] = each * L[t->size[1]];
     memset(&t->nodes[UNSEEN], 0, sizeof(node));
     best unseen = decide(&t->nodes[UNSEEN], costs, 0);
     best b = weigh(t, &t->nodes[ROOT], t->depth, &unseen);

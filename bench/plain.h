@@ -14,7 +14,7 @@ typedef struct {
 } node;
 
 typedef struct {
-    uint32_t alphabet, depth, used, size[2];
+    uint32_t alphabet, depth, weight, used, size[2];
     uint8_t text[2][LONGEST];
     node nodes[NODES];
 } trie;
@@ -26,7 +26,8 @@ typedef struct {
     uint32_t alphabet, depth;
 } recording;
 
-void plain_start(trie *t, uint32_t alphabet, uint32_t depth);
+// The weight is that of the penalty, in quarters.
+void plain_start(trie *t, uint32_t alphabet, uint32_t depth, uint32_t weight);
 void plain_feed_all(trie *t, uint32_t sample, const uint8_t *symbols, uint32_t many);
 // How many contexts the sitting holds: those seen at a place from D+1 on.
 uint32_t plain_held(const trie *t);

@@ -1,5 +1,6 @@
 // The program in plain C with no checks: reads a sitting file from standard input and prints its report.
 #include "plain.h"
+#include "sobumikeyo.h" // only what the plain weight is; nothing of the library is called
 #include <stdio.h>
 
 enum { INPUT = 4608, ROWS = 512, ROW = 11 };
@@ -20,7 +21,7 @@ int main(void) {
     if (fread(file, 1, INPUT, stdin) == 0) return 1;
     uint32_t alphabet = number(&at), depth = number(&at), n = number(&at), m = number(&at);
     plain_logarithms(n + m);
-    plain_start(&sitting, alphabet, depth);
+    plain_start(&sitting, alphabet, depth, SOBUMIKEYO_PLAIN_WEIGHT);
     plain_feed_all(&sitting, 0, at, n);
     plain_feed_all(&sitting, 1, at + n, m);
     uint32_t rows = plain_report(&sitting, sheet, &score);

@@ -9,10 +9,12 @@ typedef struct {
     uint32_t alphabet, depth, uses, noise;
 } shape;
 
-enum { SHAPES = 6, CALLS = 4, CASES = SHAPES * CALLS };
+enum { SHAPES = 6, CALLS = 9, CASES = SHAPES * CALLS, FEEDS = 3 };
 // The last two have few contexts: there what a report costs besides them shows.
 static const shape shapes[SHAPES] = {{4, 4, 4, 4}, {8, 6, 8, 100}, {8, 6, 8, 1}, {2, 6, 2, 4}, {4, 4, 4, 32}, {8, 6, 3, 64}};
-static const char *const calls[CALLS] = {"report", "soundness test", "feed_all", "feeds one by one"};
+// Every call at a store; that at FEEDS is made for each symbol, and so is slow.
+static const char *const calls[CALLS] = {"report", "soundness test", "feed_all", "feeds one by one", "make",
+                                         "open",   "close",          "room",     "chart"};
 
 // The contexts that the sitting holds, and what its report answered: row count, score, and a sum over its rows.
 typedef struct {

@@ -1,4 +1,5 @@
-// One sitting of 512 + 512 symbols (A 4, D 4): feeding, report and chart against the same in plain C, whose answers must agree.
+// One sitting of 512 + 512 symbols (A 4, D 4): feeding, report and chart against the same in plain C, whose answers must agree, the
+// report's at every weight.
 #include "plain.h"
 #include "sobumikeyo.h"
 #include "stores.h"
@@ -11,12 +12,13 @@ static uint8_t text[2][USUAL];
 static uint32_t store[LEN], sheet[SHEET], plain_sheet[SHEET], rows, plain_rows, why;
 static int64_t score, plain_score;
 static trie twin;
+static uint32_t weight;
 static volatile uint64_t sink;
 
 static void begin(void *with) {
     (void)with;
     sobumikeyo_make(store, LEN, ROOM);
-    sobumikeyo_open(store, LEN, 0, ALPHABET, DEPTH, ROOM);
+    sobumikeyo_open(store, LEN, 0, ALPHABET, DEPTH, weight, ROOM);
 }
 
 static void feed_runs(void *with) {
@@ -39,7 +41,7 @@ static void feed_and_test(void *with) {
 
 static void plain_begin(void *with) {
     (void)with;
-    plain_start(&twin, ALPHABET, DEPTH);
+    plain_start(&twin, ALPHABET, DEPTH, weight);
 }
 
 static void plain_feed(void *with) {
@@ -93,11 +95,18 @@ static void charts_agree(void) {
     }
 }
 
-static void agree(void) {
+static void agree_at(uint32_t quarters) {
+    weight = quarters;
     begin(0), feed_runs(0), plain_begin(0), plain_feed(0), report(0), plain(0);
     must(store[1] == plain_held(&twin), "contexts held as in plain C");
     must(rows == plain_rows && score == plain_score, "row count and score as in plain C");
     must(memcmp(sheet, plain_sheet, rows * 11 * sizeof *sheet) == 0, "rows as in plain C");
+}
+
+// At every weight, and last at the plain one, which is measured; charts do not know it.
+static void agree(void) {
+    for (uint32_t quarters = 0; quarters <= SOBUMIKEYO_LARGEST_WEIGHT; quarters++) agree_at(quarters);
+    agree_at(SOBUMIKEYO_PLAIN_WEIGHT);
     charts_agree();
 }
 

@@ -25,8 +25,16 @@ void string_of(uint8_t *to, size_t many, habit h) {
     for (size_t i = 0; i < many; i++) to[i] = next_symbol(h, i > 0 ? to[i - 1] : 0, i > 1 ? to[i - 2] : 1);
 }
 
-// Where the header has a desk's reservation.
-static uint32_t *reservation(filled *f, uint32_t desk) { return &f->numbers[16 + 32 * desk + 3]; }
+// Which prototype the library has is read from the header that this is compiled with: one from before request E5 names no weight.
+uint32_t open_plain(uint32_t *store, size_t len, uint32_t desk, uint32_t alphabet, uint32_t depth, uint32_t reserved) {
+#ifdef SOBUMIKEYO_PLAIN_WEIGHT
+    return sobumikeyo_open(store, len, desk, alphabet, depth, SOBUMIKEYO_PLAIN_WEIGHT, reserved);
+#else
+    return sobumikeyo_open(store, len, desk, alphabet, depth, reserved);
+#endif
+}
+
+uint32_t *reservation(filled *f, uint32_t desk) { return &f->numbers[16 + 32 * desk + 4]; }
 
 // Feeds a desk's samples in turn, USUAL symbols each, unless its reservation stops a feed.
 static void feed_until_full(filled *f, uint32_t desk, habit h) {
@@ -41,7 +49,7 @@ static void feed_until_full(filled *f, uint32_t desk, habit h) {
 
 void open_and_fill(filled *f, uint32_t desk, uint32_t depth, uint32_t quota, habit h) {
     uint32_t before = f->numbers[1];
-    must(sobumikeyo_open(f->numbers, f->len, desk, 8, depth, quota) == 0, "open");
+    must(open_plain(f->numbers, f->len, desk, 8, depth, quota) == 0, "open");
     feed_until_full(f, desk, h);
     *reservation(f, desk) = f->numbers[1] - before;
     f->live = f->numbers[1];

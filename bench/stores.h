@@ -14,6 +14,9 @@ typedef struct {
 
 void string_of(uint8_t *to, size_t many, habit h);
 
+// Opens a desk with the plain weight, or, in a library from before request E5, with none.
+uint32_t open_plain(uint32_t *store, size_t len, uint32_t desk, uint32_t alphabet, uint32_t depth, uint32_t reserved);
+
 // A store with its content kept aside, and feeds that it would accept.
 typedef struct {
     uint32_t *numbers, *kept;
@@ -27,6 +30,8 @@ typedef struct {
 // symbols; its contexts are then its reservation.
 filled new_store(uint32_t room);
 void open_and_fill(filled *f, uint32_t desk, uint32_t depth, uint32_t quota, habit h);
+// Where the header has a desk's reservation.
+uint32_t *reservation(filled *f, uint32_t desk);
 
 // A store of room K with that many contexts: most at desks 0 to 5 (D 6), the rest at desk 6 (D 1); desk 7 is closed.
 // With `spare`, desks 0 and 6 have reservations to go on: that takes at most 15 more than the contexts held.
