@@ -13,7 +13,7 @@ J3-sheet =
     ∷ 0 ∷ 1 ∷ 1 ∷ 5 ∷ 0 ∷ 0 ∷ 0 ∷ 0 ∷ 0 ∷ 0 ∷ 0 ∷ []
 
 -- J3's four lines
-pub J3-printed : reportText 2 1 8 8 3 (negsuc 20175) J3-sheet ≡ ascii "2 1 8 8 3 -20176\n1 1 0 0 4\n2 1 0 3 2\n0 1 1 5 0\n"
+pub J3-printed : reportText 2 1 8 8 3 (negsuc 80703) J3-sheet ≡ ascii "2 1 8 8 3 -80704\n1 1 0 0 4\n2 1 0 3 2\n0 1 1 5 0\n"
 unfolding ascii spelled lineOf rowsText
 J3-printed = refl
 
