@@ -19,9 +19,9 @@ use Rattle.changes.specs.Changes.{freshDesk, Opened}
 
 -- ---- the part: zeros, then the numbers that the opening names
 
-pub laid-out : (l₀ l : List ℕ) (i A D W r : ℕ) → length l₀ ≡ deskNumbers → deskNumbers ≤ i → i ≤ deskNumbers → l ≡ replicate i 0 ++ drop i l₀
-    → set (set (set (set (set l 0 1) 1 A) 2 D) 3 W) 4 r ≡ freshDesk (naming A D W r)
-laid-out l₀ l i A D W r long low high e =
+pub laid-out : (l₀ l : List ℕ) (i A D weight r : ℕ) → length l₀ ≡ deskNumbers → deskNumbers ≤ i → i ≤ deskNumbers → l ≡ replicate i 0 ++ drop i l₀
+    → set (set (set (set (set l 0 1) 1 A) 2 D) 3 weight) 4 r ≡ freshDesk (naming A D weight r)
+laid-out l₀ l i A D weight r long low high e =
     let all : i ≡ deskNumbers = omega arith in
     let none : drop deskNumbers l₀ ≡ [] = drop-of-length-le l₀ {i = deskNumbers} (le-of-eq long) in
     let zeros : l ≡ replicate deskNumbers 0 = e ∙ rw (all, none) in

@@ -14,25 +14,25 @@ use Rattle.rules.specs.Rules.{done, rules}
 use Rattle.changes.proofs.Granting.{Ready, not-outside, not-heavy, outside, heavy, above-room, above-left, granted}
 
 module _ (ρ : Room Progress) (d : ℕ) (near : d < desks) (shut : ρ .at d ≡ closed) (A : ℕ) (few : fewestSymbols ≤ A) (most : A ≤ mostSymbols) where
-  in-limits : (D W r : ℕ) → D ≤ deepest → outsideLimits (naming A D W r) ≡ false
-  in-limits D W r h = not-outside (naming A D W r) (record { fewest = few; most = most; deep = h })
+  in-limits : (D weight r : ℕ) → D ≤ deepest → outsideLimits (naming A D weight r) ≡ false
+  in-limits D weight r h = not-outside (naming A D weight r) (record { fewest = few; most = most; deep = h })
 
-  ready : (D W r : ℕ) → D ≤ deepest → W ≤ mostWeight → Ready ρ d (naming A D W r)
-  ready D W r h w = record { desk = near; shut = shut; limits = in-limits D W r h; weight = not-heavy (naming A D W r) w }
+  ready : (D weight r : ℕ) → D ≤ deepest → weight ≤ mostWeight → Ready ρ d (naming A D weight r)
+  ready D weight r h w = record { desk = near; shut = shut; limits = in-limits D weight r h; weight = not-heavy (naming A D weight r) w }
 
   -- a reservation that the room left holds
-  fits : (D W r : ℕ) → D ≤ deepest → W ≤ mostWeight → 1 ≤ r → r ≤ left ρ → verdict rules ρ (atDesk d (opening (naming A D W r))) ≡ answered done
+  fits : (D weight r : ℕ) → D ≤ deepest → weight ≤ mostWeight → 1 ≤ r → r ≤ left ρ → verdict rules ρ (atDesk d (opening (naming A D weight r))) ≡ answered done
   unfolding left
-  fits D W r h w some in-left = granted ρ d (naming A D W r) (record { ready = ready D W r h w; some = some; in-room = omega arith; fits = in-left })
+  fits D weight r h w some in-left = granted ρ d (naming A D weight r) (record { ready = ready D weight r h w; some = some; in-room = omega arith; fits = in-left })
 
   -- D 6 opens
-  pub six-opens : (W r : ℕ) → W ≤ mostWeight → 1 ≤ r → r ≤ left ρ → verdict rules ρ (atDesk d (opening (naming A 6 W r))) ≡ answered done
-  six-opens W r w some in-left = fits 6 W r (omega arith) w some in-left
+  pub six-opens : (weight r : ℕ) → weight ≤ mostWeight → 1 ≤ r → r ≤ left ρ → verdict rules ρ (atDesk d (opening (naming A 6 weight r))) ≡ answered done
+  six-opens weight r w some in-left = fits 6 weight r (omega arith) w some in-left
 
   -- 7 gets 5, whatever the weight
-  pub seven-gets-5 : (W r : ℕ) → verdict rules ρ (atDesk d (opening (naming A 7 W r))) ≡ refused 5
+  pub seven-gets-5 : (weight r : ℕ) → verdict rules ρ (atDesk d (opening (naming A 7 weight r))) ≡ refused 5
   unfolding outsideLimits
-  seven-gets-5 W r = outside ρ d (naming A 7 W r) near shut (rw (le-ltb A fewestSymbols few, le-ltb mostSymbols A most))
+  seven-gets-5 weight r = outside ρ d (naming A 7 weight r) near shut (rw (le-ltb A fewestSymbols few, le-ltb mostSymbols A most))
 
   -- a weight of 0 opens, and one of 16
   pub zero-opens : (D r : ℕ) → D ≤ deepest → 1 ≤ r → r ≤ left ρ → verdict rules ρ (atDesk d (opening (naming A D 0 r))) ≡ answered done
@@ -46,15 +46,15 @@ module _ (ρ : Room Progress) (d : ℕ) (near : d < desks) (shut : ρ .at d ≡ 
   unfolding weightOutside
   seventeen-gets-20 D r h = heavy ρ d (naming A D 17 r) near shut (in-limits D 17 r h) refl
 
-  module _ (D W : ℕ) (h : D ≤ deepest) (w : W ≤ mostWeight) where
+  module _ (D weight : ℕ) (h : D ≤ deepest) (w : weight ≤ mostWeight) where
     -- r equal to a room left above 0 opens
-    pub all-left-opens : 1 ≤ left ρ → verdict rules ρ (atDesk d (opening (naming A D W (left ρ)))) ≡ answered done
-    all-left-opens some = fits D W (left ρ) h w some (omega arith)
+    pub all-left-opens : 1 ≤ left ρ → verdict rules ρ (atDesk d (opening (naming A D weight (left ρ)))) ≡ answered done
+    all-left-opens some = fits D weight (left ρ) h w some (omega arith)
 
     -- one more gets 7 ..
-    pub one-more-gets-7 : left ρ < ρ .made → verdict rules ρ (atDesk d (opening (naming A D W (suc (left ρ))))) ≡ refused 7
-    one-more-gets-7 less = above-left ρ d (naming A D W (suc (left ρ))) (ready D W (suc (left ρ)) h w) (omega arith) less (omega arith)
+    pub one-more-gets-7 : left ρ < ρ .made → verdict rules ρ (atDesk d (opening (naming A D weight (suc (left ρ))))) ≡ refused 7
+    one-more-gets-7 less = above-left ρ d (naming A D weight (suc (left ρ))) (ready D weight (suc (left ρ)) h w) (omega arith) less (omega arith)
 
     -- .. and 6 where the room left is K
-    pub one-more-gets-6 : left ρ ≡ ρ .made → verdict rules ρ (atDesk d (opening (naming A D W (suc (left ρ))))) ≡ refused 6
-    one-more-gets-6 whole = above-room ρ d (naming A D W (suc (left ρ))) (ready D W (suc (left ρ)) h w) (omega arith) (omega arith)
+    pub one-more-gets-6 : left ρ ≡ ρ .made → verdict rules ρ (atDesk d (opening (naming A D weight (suc (left ρ))))) ≡ refused 6
+    one-more-gets-6 whole = above-room ρ d (naming A D weight (suc (left ρ))) (ready D weight (suc (left ρ)) h w) (omega arith) (omega arith)

@@ -36,7 +36,7 @@ module _ (A d len code : ℕ) (few : len ≤ deepest) where
   decoded-short = context-more mostSymbols mostSymbols len deepest (decoded len code) (omega arith) few (decoded-within len code)
 
   module _ (key rest : ℕ) where
-    -- one symbol's part of the key, at its eights
+    -- one symbol's part of the key, at its power of eight
     newest-part : (l : ℕ) → suc l ≤ len
         → digits (deepest - (len - suc l)) (decoded (suc l) rest) * 8 + suc l ≡ rest % 8 * 8 ^ (deepest - (len - suc l)) + 1 + (digits (deepest - (len - l)) (decoded l (rest / 8)) * 8 + l)
     unfolding digits decoded

@@ -83,7 +83,7 @@ fn key_of(symbols: u32, desk: u32, length: u32, code: u32) -> Named
     Named::NoContext
 }
 
-// What a symbol weighs in a key that has so many more recent ones: 8^6 for the most recent, and an eighth for each place back.
+// The power of eight at which a symbol stands in a key that has so many more recent ones: 8^6 for the most recent, and an eighth for each place back.
 fn eights_of(newer: u32) -> u32
     requires { ⌜ newer < deepest ⌝ }
     ensures { λ r. ⌜ r ≡ 8 ^ (deepest - newer) ⌝ }

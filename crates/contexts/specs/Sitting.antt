@@ -37,7 +37,7 @@ pub record Sitting : Type 0 where
 
 -- the sitting of two pasts, each most recent symbol first, where the places past the first `from` are counted
 abbrev pub sittingOf : ℕ → ℕ → ℕ → ℕ → (Sample → List ℕ) → Sitting
-sittingOf A D W from past = record { symbols = A; depth = D; weight = W; size = λ i. length (past i); count = λ i. N from (past i) }
+sittingOf A D weight from past = record { symbols = A; depth = D; weight = weight; size = λ i. length (past i); count = λ i. N from (past i) }
 
 -- N(s) in a sample
 abbrev pub totalIn : Sitting → Sample → List ℕ → ℕ
@@ -75,4 +75,4 @@ pub record Progress : Type 0 where
   pub count : Sample → List ℕ → ℕ → ℕ
 
 abbrev pub sat : ℕ → ℕ → ℕ → Progress → Sitting
-sat A D W p = record { symbols = A; depth = D; weight = W; size = p .size; count = p .count }
+sat A D weight p = record { symbols = A; depth = D; weight = weight; size = p .size; count = p .count }

@@ -106,7 +106,7 @@ pub record JointEstimate (x : Sitting) (r : Reported) : Type 0 where
 pub record ItsStrings (gs : List (Course rules)) (d : ℕ) : Type 0 where
   pub course : Course rules
   pub there : latest rules d gs ≡ some course
-  -- the opening that it began with, which names A and D
+  -- the opening that it began with, which names A, D and the weight
   pub named : Opening
   pub later : List (Told rules)
   pub begun : course .told ≡ record { act = opening named; answer = done } ∷ later

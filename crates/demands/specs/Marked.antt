@@ -23,9 +23,9 @@ use Rattle.rules.specs.Rules.{Answer, done, contextsLeft, reported, point, feed
 abbrev pub feeds : ℕ → List ℕ → List (Call rules)
 feeds i w = map (λ a. atDesk 0 (asking (feed i a))) w
 
--- desk 0 opened with A, D, a weight W and r, the two samples fed, and a report on a sheet of 44 numbers from row 0 on
+-- desk 0 opened with A, D, a weight and r, the two samples fed, and a report on a sheet of 44 numbers from row 0 on
 abbrev pub callsOf : ℕ → ℕ → ℕ → ℕ → List ℕ → List ℕ → List (Call rules)
-callsOf A D W r w v = atDesk 0 (opening (record { symbols = A; depth = D; weight = W; reserve = r })) ∷ (feeds 0 w ++ (feeds 1 v ++ (atDesk 0 (asking (reporting 44 0)) ∷ [])))
+callsOf A D weight r w v = atDesk 0 (opening (record { symbols = A; depth = D; weight = weight; reserve = r })) ∷ (feeds 0 w ++ (feeds 1 v ++ (atDesk 0 (asking (reporting 44 0)) ∷ [])))
 
 -- ---- what is told
 
@@ -51,14 +51,14 @@ row kind len code counts = kind ∷ len ∷ code ∷ take mostSymbols (counts ++
 
 -- desk 0 of a new room after these calls
 abbrev pub deskAfter : ℕ → ℕ → ℕ → ℕ → List ℕ → List ℕ → Desk Progress
-deskAfter A D W r w v = after rules (new r) (callsOf A D W r w v) .at 0
+deskAfter A D weight r w v = after rules (new r) (callsOf A D weight r w v) .at 0
 
 -- what an open desk's sitting has counted of a context in a sample, symbol by symbol
 abbrev pub countsAt : Desk Progress → Sample → List ℕ → List ℕ
 countsAt closed i s = []
 countsAt (opened o p) i s = take (o .symbols) (eight (p .count i s))
 
--- L(n); or the calls of a sitting with A, D, W, r and two samples, on a new room of r contexts; or the counts of a context in each sample after these
+-- L(n); or the calls of a sitting with A, D, a weight, r and two samples, on a new room of r contexts; or the counts of a context in each sample after these
 pub data Question : Type 0 where
   logarithm : ℕ → Question
   sitting : ℕ → ℕ → ℕ → ℕ → List ℕ → List ℕ → Question
@@ -83,15 +83,15 @@ pub data Worked : Type 0 where
 -- what the model answers
 abbrev pub answered-to : Question → Worked
 answered-to (logarithm n) = isValue (L n)
-answered-to (sitting A D W r w v) = areSaid (map say (outcomes rules (new r) (callsOf A D W r w v)))
-answered-to (counting s A D W r w v) = areCounts (countsAt (deskAfter A D W r w v) first s) (countsAt (deskAfter A D W r w v) second s)
+answered-to (sitting A D weight r w v) = areSaid (map say (outcomes rules (new r) (callsOf A D weight r w v)))
+answered-to (counting s A D weight r w v) = areCounts (countsAt (deskAfter A D weight r w v) first s) (countsAt (deskAfter A D weight r w v) second s)
 
 -- what the example says
 abbrev pub expected : Question → Given → Worked
 expected q (value k) = isValue k
-expected (sitting A D W r w v) (reports ls n) = areSaid (did ∷ (map (λ a. did) w ++ (map (λ a. did) v ++ (rows ls n ∷ []))))
+expected (sitting A D weight r w v) (reports ls n) = areSaid (did ∷ (map (λ a. did) w ++ (map (λ a. did) v ++ (rows ls n ∷ []))))
 expected (logarithm n) (reports ls s) = areSaid []
-expected (counting s A D W r w v) (reports ls n) = areSaid []
+expected (counting s A D weight r w v) (reports ls n) = areSaid []
 expected q (each ts) = areSaid ts
 expected q (inEach x y) = areCounts x y
 

@@ -97,17 +97,17 @@ estimate-alike A (suc d) f g e = go (λ a l. estimate-alike A d (below a f) (bel
 
 -- ---- two sittings
 
-module _ (A D W : ℕ) (n m : Sample → ℕ) (c e : Sample → List ℕ → ℕ → ℕ) (sizes : (i : Sample) → n i ≡ m i)
+module _ (A D weight : ℕ) (n m : Sample → ℕ) (c e : Sample → List ℕ → ℕ → ℕ) (sizes : (i : Sample) → n i ≡ m i)
     (same : (i : Sample) (s : List ℕ) (a : ℕ) → T (isContext A D s) → c i s a ≡ e i s a) where
   abbrev x : Sitting
-  x = record { symbols = A; depth = D; weight = W; size = n; count = c }
+  x = record { symbols = A; depth = D; weight = weight; size = n; count = c }
 
   abbrev y : Sitting
-  y = record { symbols = A; depth = D; weight = W; size = m; count = e }
+  y = record { symbols = A; depth = D; weight = weight; size = m; count = e }
 
   losses-alike : (k : Kind) (s : List ℕ) → T (isContext A D s) → losses x k s ≡ losses y k s
   losses-alike k s h =
-      ap₂ _+_ (ap (cost W A) (kind-cong k {g = n} {h = m} sizes)) (spread-cong A {c = counts x k s} {e = counts y k s} (λ a l. kind-cong k {g = λ i. c i s a} {h = λ i. e i s a} (λ i. same i s a h)))
+      ap₂ _+_ (ap (cost weight A) (kind-cong k {g = n} {h = m} sizes)) (spread-cong A {c = counts x k s} {e = counts y k s} (λ a l. kind-cong k {g = λ i. c i s a} {h = λ i. e i s a} (λ i. same i s a h)))
 
   -- THEOREM. Two sittings of one A, D and weight that agree on lengths and on the counts of every context have one estimate, and one score
   pub same-estimate : estimateOf x ≡ estimateOf y

@@ -11,7 +11,7 @@ use Rattle.estimate.specs.Score.{terms}
 use Rattle.estimate.specs.Table.{countsIn}
 use Rattle.estimate.specs.declared.Sums.{Sums}
 
--- what the first n symbols of a table add up to and weigh
+-- what the counts of the first n symbols of a table add up to, and what their terms do
 pub record SumsOf (n : ℕ) (t : List (List ℕ)) (r : Sums) : Type 0 where
   pub first-sum : r .first ≡ sum n (countsIn t (own first))
   pub second-sum : r .second ≡ sum n (countsIn t (own second))

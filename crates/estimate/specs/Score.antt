@@ -44,7 +44,7 @@ quarter A n = (A - 1) * L n
 
 -- "The penalty of a context becomes weight·(A-1)·L"
 abbrev pub cost : ℕ → ℕ → ℕ → ℕ
-cost W A n = W * quarter A n
+cost weight A n = weight * quarter A n
 
 -- what a context of a kind adds to a score: its fit less its cost
 abbrev pub Worths : Type 0

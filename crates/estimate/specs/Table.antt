@@ -19,11 +19,11 @@ forKind b shared = b .shared
 forKind b (own first) = b .first
 forKind b (own second) = b .second
 
--- what a context of each kind costs at weight W, where the samples have n and m symbols
-pub record CostsOf (W A n m : ℕ) (r : ByKind) : Type 0 where
-  pub shared : r .shared ≡ cost W A (n + m)
-  pub first : r .first ≡ cost W A n
-  pub second : r .second ≡ cost W A m
+-- what a context of each kind costs at a weight, where the samples have n and m symbols
+pub record CostsOf (weight A n m : ℕ) (r : ByKind) : Type 0 where
+  pub shared : r .shared ≡ cost weight A (n + m)
+  pub first : r .first ≡ cost weight A n
+  pub second : r .second ≡ cost weight A m
 
 -- no context costs more than this, and no fit takes away more
 abbrev pub mostCost : ℕ

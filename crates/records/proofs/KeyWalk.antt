@@ -44,7 +44,7 @@ module _ (d : ℕ) (r : List ℕ) (c : Within r) where
 
 -- ---- the key of the next context
 
--- `key` is that of the context of length j, and `eights` what the next symbol weighs in a key
+-- `key` is that of the context of length j, and `eights` the power of eight at which the next symbol stands in a key
 pub record Walk (d : ℕ) (r : List ℕ) (key eights j : ℕ) : Type 0 where
   pub within : j ≤ length r + 1
   pub key-is : j ≤ length r → key ≡ keyOf d (take j r)

@@ -26,9 +26,9 @@ pub record Seeks (d : ℕ) (recent : List ℕ) (rs : List (List ℕ)) (m : ℕ) 
   pub seven : length places ≡ 7
   pub others : (j : ℕ) → min m (length recent) < j → getD places j 0 ≡ 0
 
--- the key of the context that is longer by the recent symbol at a place, which weighs so much; the key itself where no symbol is there
+-- the key of the context that is longer by the recent symbol at a place, which stands at this power of eight; the key itself where no symbol is there
 abbrev pub longerKey : ℕ → ℕ → List ℕ → ℕ → ℕ
-longerKey k weighs recent place = cond (ltb place (length recent)) (k + (getD recent place 0 * weighs + 1)) k
+longerKey k eights recent place = cond (ltb place (length recent)) (k + (getD recent place 0 * eights + 1)) k
 
 -- no record has a key from k to k′
 abbrev pub Clear : ℕ → ℕ → List (List ℕ) → Type 0
@@ -40,7 +40,7 @@ pub record Ready (d i a : ℕ) (recent : List ℕ) (n : ℕ) (l : List ℕ) (m :
   pub located : Located d recent (records n l) m places
   pub clear : m ≤ length recent → Clear (keyOf d (take m recent)) (keyOf d recent) (records n l)
 
--- what putting in the records of the contexts from length m on asks: that there are some, and room for them in whole eights
+-- what putting in the records of the contexts from length m on asks: that there are some, and room for them, in a multiple of 8 numbers
 pub record Insertable (d : ℕ) (recent : List ℕ) (m c : ℕ) (l : List ℕ) : Type 0 where
   pub desk : d < desks
   pub context : T (isContext mostSymbols deepest recent)

@@ -17,7 +17,7 @@ pub const COUNTS: usize = 8;
 // How many keys a desk has.
 pub const DESK_SPAN: u32 = 2097152;
 
-// What the most recent symbol weighs in a key; each older one weighs an eighth of the one before.
+// The power of eight at which the most recent symbol stands in a key; each older one stands at an eighth of the one before.
 pub const NEWEST: u32 = 262144;
 
 // Where the contexts that a symbol follows stand: how many of them are held, and their places. Where one is not held, its place comes after those.

@@ -37,7 +37,7 @@ abbrev toy : Rules
 toy = record { State = ℕ; Ask = Say; Answer = Said; done = ok; room = room; fresh = λ o. 0; lines = toyLines; answer = toyAnswer; next = toyNext }
 
 abbrev opensAs : ℕ → ℕ → ℕ → ℕ → ℕ → Call toy
-opensAs d A D W r = atDesk d (opening (record { symbols = A; depth = D; weight = W; reserve = r }))
+opensAs d A D weight r = atDesk d (opening (record { symbols = A; depth = D; weight = weight; reserve = r }))
 
 abbrev opensFor : ℕ → ℕ → Call toy
 opensFor d r = opensAs d 2 1 4 r

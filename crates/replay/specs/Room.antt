@@ -16,7 +16,7 @@ pub record Opening : Type 0 where
   pub reserve : ℕ
 
 abbrev pub naming : ℕ → ℕ → ℕ → ℕ → Opening
-naming A D W r = record { symbols = A; depth = D; weight = W; reserve = r }
+naming A D weight r = record { symbols = A; depth = D; weight = weight; reserve = r }
 
 pub data Desk (State : Type 0) : Type 0 where
   closed : Desk State

@@ -177,7 +177,7 @@ fn ends_ok(key: u32) -> bool
     key % w == len
 }
 
-// What the oldest of `len` symbols weighs in a key: by a shift, which is faster than a table.
+// The power of eight at which the oldest of `len` symbols stands in a key: by a shift, which is faster than a table.
 fn eights_of(len: usize) -> u32
     requires { ⌜ len < 8 ⌝ }
     ensures { λ r. ⌜ (r ≡ eights len) × (0 < r) ⌝ }

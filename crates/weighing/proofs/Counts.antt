@@ -39,8 +39,8 @@ eight-list : (c : ℕ → ℕ) (q : List ℕ) → length q ≡ mostSymbols → (
 eight-list c q h e = ext-getD 0 (eight c) q (sym h) (λ a l. eight-at c a l ∙ e a)
 
 -- what a context of a kind costs at most
-price-small : (W A n : ℕ) → W ≤ mostWeight → A ≤ mostSymbols → n ≤ mostCounted → cost W A n ≤ mostCost
-price-small W A n light few h = let p : A - 1 ≤ mostSymbols = omega arith in mul-le-mul light (mul-le-mul p (L-top n h))
+price-small : (weight A n : ℕ) → weight ≤ mostWeight → A ≤ mostSymbols → n ≤ mostCounted → cost weight A n ≤ mostCost
+price-small weight A n light few h = let p : A - 1 ≤ mostSymbols = omega arith in mul-le-mul light (mul-le-mul p (L-top n h))
 
 -- .. and adds to its loss
 spread-most : (A : ℕ) (c : ℕ → ℕ) → sum A c ≤ mostCounted → spread A c ≤ mostSpread
