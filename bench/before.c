@@ -2,7 +2,7 @@
 #include "side.h"
 #include <stdio.h>
 
-enum { QUICK = 1000, SLOW = 15 };
+enum { QUICK = 1000, SLOW = 50 };
 
 static int same_report(answer a, answer b) { return a.rows == b.rows && a.score == b.score && a.sum == b.sum; }
 
