@@ -76,7 +76,7 @@ extern "C" {
 /* How many numbers a row has: kind (0 shared, 1 first's own, 2 second's own), length, code, eight counts. */
 #define SOBUMIKEYO_ROW_WIDTH 11
 
-/* The weight of a sitting's penalty, in quarters: 0 to the largest. The plain one is the penalty itself, neither less nor more. */
+/* The weight of a sitting's penalty, in quarters: 0 to the largest. The plain one is what the program `sitting` takes. */
 #define SOBUMIKEYO_PLAIN_WEIGHT 4
 #define SOBUMIKEYO_LARGEST_WEIGHT 16
 
