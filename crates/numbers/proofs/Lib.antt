@@ -3,3 +3,4 @@ pub mod Orders
 pub mod Sums
 pub mod Lists
 pub mod Every
+pub mod Permuting

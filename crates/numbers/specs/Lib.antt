@@ -1,3 +1,4 @@
 pub mod Limits
 pub mod Sum
 pub mod Every
+pub mod Renames
