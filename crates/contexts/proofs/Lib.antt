@@ -10,3 +10,4 @@ pub mod Digits
 pub mod Codes
 pub mod Totalling
 pub mod Tables
+pub mod Renaming
