@@ -15,3 +15,5 @@ pub mod Adding
 pub mod Agreeing
 pub mod Scale
 pub mod Doubled
+pub mod Exchange
+pub mod Rename

@@ -5,3 +5,4 @@ pub mod Recursion
 pub mod Table
 pub mod Adding
 pub mod Doubled
+pub mod Exchange
