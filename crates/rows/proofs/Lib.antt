@@ -6,3 +6,6 @@ pub mod Walking
 pub mod Scoring
 pub mod Written
 pub mod Zeros
+pub mod Again
+pub mod OneOrder
+pub mod Exchange

@@ -4,7 +4,7 @@ use native.Mathlib.Omega.{arith}
 use mathlib.Core.Path.{_≡_, refl, sym, ap, ap₂, subst, _∙_}
 use mathlib.Core.Bool.{Bool, true, false}
 use mathlib.Core.Logic.{_⊎_, inl, inr}
-use mathlib.Core.List.{List, [], _∷_, _++_, map, List·Memᴰ, List·Memᴰ·head, List·Memᴰ·tail, List·Memᴰ·append-cases, List·Memᴰ·cases-cons, Memᴰ·of-map}
+use mathlib.Core.List.{List, [], _∷_, _++_, map, map-id, List·Memᴰ, List·Memᴰ·head, List·Memᴰ·tail, List·Memᴰ·append-cases, List·Memᴰ·cases-cons, Memᴰ·map, Memᴰ·of-map}
 use lib.Dec.{T, lit<}
 use Rattle.contexts.specs.Context.{precedes}
 use Rattle.contexts.specs.Sitting.{first, second}
@@ -101,28 +101,37 @@ before-asym p q (inl s) (inr (e, l)) = not-itself (p .context) (q .context) (sym
 before-asym p q (inr (e, l)) (inl t) = not-itself (q .context) (p .context) (sym e) t
 before-asym p q (inr (e, l)) (inr (f, k)) = omega arith
 
-increasing-once : (x : Member) (xs : List Member) → Increasing (x ∷ xs) → (r : Member) → List·Memᴰ r xs → r ≡ x → ⊥
+pub increasing-once : (x : Member) (xs : List Member) → Increasing (x ∷ xs) → (r : Member) → List·Memᴰ r xs → r ≡ x → ⊥
 increasing-once x xs p r m e = let h = subst (Before x) e (p .0 r m) in before-asym x x h h
+
+-- .. also where a member is told of each of the list: of a row, the one that it is of
+module _ {X : Type 0} (by : X → Member) where
+  once-by : (x : X) (xs : List X) → Increasing (map by (x ∷ xs)) → (r : X) → List·Memᴰ r xs → r ≡ x → ⊥
+  once-by x xs p r m e = increasing-once (by x) (map by xs) p (by r) (Memᴰ·map by m) (ap by e)
+
+  pub unique-by : (xs ys : List X) → Increasing (map by xs) → Increasing (map by ys) → ((r : X) → List·Memᴰ r xs → List·Memᴰ r ys) → ((r : X) → List·Memᴰ r ys → List·Memᴰ r xs)
+      → xs ≡ ys
+  unique-by [] [] p q to from = refl
+  unique-by [] (y ∷ ys) p q to from = elim (from y (List·Memᴰ·head refl)) [ ]
+  unique-by (x ∷ xs) [] p q to from = elim (to x (List·Memᴰ·head refl)) [ ]
+  unique-by (x ∷ xs) (y ∷ ys) p q to from =
+      ap₂ {C = List X} _∷_ same
+      (unique-by xs ys (p .1) (q .1)
+      (λ r m. rest y ys r (λ e. once-by x xs p r m (e ∙ sym same)) (List·Memᴰ·cases-cons (to r (List·Memᴰ·tail m))))
+      (λ r m. rest x xs r (λ e. once-by y ys q r m (e ∙ same)) (List·Memᴰ·cases-cons (from r (List·Memᴰ·tail m)))))
+    where
+      first-same : (x ≡ y) ⊎ List·Memᴰ x ys → (y ≡ x) ⊎ List·Memᴰ y xs → x ≡ y
+      first-same (inl e) n = e
+      first-same (inr m) (inl e) = sym e
+      first-same (inr m) (inr n) = absurd (before-asym (by x) (by y) (p .0 (by y) (Memᴰ·map by n)) (q .0 (by x) (Memᴰ·map by m)))
+
+      same : x ≡ y
+      same = first-same (List·Memᴰ·cases-cons (to x (List·Memᴰ·head refl))) (List·Memᴰ·cases-cons (from y (List·Memᴰ·head refl)))
+
+      rest : (z : X) (zs : List X) (r : X) → (r ≡ z → ⊥) → (r ≡ z) ⊎ List·Memᴰ r zs → List·Memᴰ r zs
+      rest z zs r n (inl e) = absurd (n e)
+      rest z zs r n (inr m) = m
 
 pub increasing-unique : (xs ys : List Member) → Increasing xs → Increasing ys → ((r : Member) → List·Memᴰ r xs → List·Memᴰ r ys) → ((r : Member) → List·Memᴰ r ys → List·Memᴰ r xs)
     → xs ≡ ys
-increasing-unique [] [] p q to from = refl
-increasing-unique [] (y ∷ ys) p q to from = elim (from y (List·Memᴰ·head refl)) [ ]
-increasing-unique (x ∷ xs) [] p q to from = elim (to x (List·Memᴰ·head refl)) [ ]
-increasing-unique (x ∷ xs) (y ∷ ys) p q to from =
-    ap₂ {C = List Member} _∷_ same
-    (increasing-unique xs ys (p .1) (q .1)
-    (λ r m. rest y ys r (λ e. increasing-once x xs p r m (e ∙ sym same)) (List·Memᴰ·cases-cons (to r (List·Memᴰ·tail m))))
-    (λ r m. rest x xs r (λ e. increasing-once y ys q r m (e ∙ same)) (List·Memᴰ·cases-cons (from r (List·Memᴰ·tail m)))))
-  where
-    first-same : (x ≡ y) ⊎ List·Memᴰ x ys → (y ≡ x) ⊎ List·Memᴰ y xs → x ≡ y
-    first-same (inl e) n = e
-    first-same (inr m) (inl e) = sym e
-    first-same (inr m) (inr n) = absurd (before-asym x y (p .0 y n) (q .0 x m))
-
-    same : x ≡ y
-    same = first-same (List·Memᴰ·cases-cons (to x (List·Memᴰ·head refl))) (List·Memᴰ·cases-cons (from y (List·Memᴰ·head refl)))
-
-    rest : (z : Member) (zs : List Member) (r : Member) → (r ≡ z → ⊥) → (r ≡ z) ⊎ List·Memᴰ r zs → List·Memᴰ r zs
-    rest z zs r n (inl e) = absurd (n e)
-    rest z zs r n (inr m) = m
+increasing-unique xs ys p q = unique-by (λ r. r) xs ys (subst Increasing (sym (map-id xs)) p) (subst Increasing (sym (map-id ys)) q)

@@ -1,3 +1,4 @@
 pub mod Members
 pub mod Rows
 pub mod Walk
+pub mod Exchange
