@@ -22,6 +22,11 @@ over-below A [] o i h = absurd (omega arith)
 over-below A (a ∷ w) o zero h = newest-below A (length w) a w o
 over-below A (a ∷ w) o (suc i) h = over-below A w (older-context A (length w) a w o) i (omega arith)
 
+pub below-over : (A : ℕ) (w : List ℕ) → Below A w → Over A w
+unfolding isContext
+below-over A [] b = tt
+below-over A (a ∷ w) b = context-cons A (length w) a w (b 0 (omega arith)) (below-over A w (λ i h. b (suc i) (omega arith)))
+
 onto : (A : ℕ) (us w : List ℕ) → Below A us → Over A w → Over A (reverseAux us w)
 onto A [] w b o = o
 onto A (a ∷ us) w b o = onto A us (a ∷ w) (λ i h. b (suc i) (omega arith)) (context-cons A (length w) a w (b 0 (omega arith)) o)

@@ -15,3 +15,9 @@ pub mod Possible
 pub mod Replays
 pub mod Short
 pub mod Weight
+pub mod Exchange
+pub mod ExchangedRuns
+pub mod ExchangedHolding
+pub mod ExchangedFeeds
+pub mod ExchangedDesks
+pub mod ExchangedFiles

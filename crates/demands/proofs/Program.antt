@@ -35,7 +35,7 @@ below : (file : List ℕ) (shape : Shape) → readOf file ≡ Accepted shape →
 below file shape e first = accepted-holds file shape e .first-below
 below file shape e second = accepted-holds file shape e .second-below
 
-over : (file : List ℕ) (shape : Shape) → readOf file ≡ Accepted shape → (i : Sample) → Over (shape .alphabet) (stringsIn file shape i)
+pub over : (file : List ℕ) (shape : Shape) → readOf file ≡ Accepted shape → (i : Sample) → Over (shape .alphabet) (stringsIn file shape i)
 unfolding stringsIn
 over file shape e first = reverse-over (shape .alphabet) (firstOf file shape) (below file shape e first)
 over file shape e second = reverse-over (shape .alphabet) (secondOf file shape) (below file shape e second)
