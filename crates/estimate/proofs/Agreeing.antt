@@ -16,7 +16,7 @@ use Rattle.estimate.specs.Score.{counts, cost, worths, score}
 use Rattle.estimate.specs.Recursion.{Losses, losses, best, separate, joint, split, splitBoth, tree, estimate, estimateOf}
 use Rattle.estimate.proofs.Integers.{minus}
 use Rattle.estimate.proofs.Spreads.{spread-cong}
-use Rattle.estimate.proofs.Tables.{kind-cong}
+use Rattle.estimate.proofs.Tables.{kind-cong, size-cong}
 use Rattle.estimate.proofs.Optimal.{score-estimate}
 
 -- f and g are equal at the contexts of at most d symbols below A
@@ -107,7 +107,7 @@ module _ (A D weight : ℕ) (n m : Sample → ℕ) (c e : Sample → List ℕ �
 
   losses-alike : (k : Kind) (s : List ℕ) → T (isContext A D s) → losses x k s ≡ losses y k s
   losses-alike k s h =
-      ap₂ _+_ (ap (cost weight A) (kind-cong k {g = n} {h = m} sizes)) (spread-cong A {c = counts x k s} {e = counts y k s} (λ a l. kind-cong k {g = λ i. c i s a} {h = λ i. e i s a} (λ i. same i s a h)))
+      ap₂ _+_ (ap (cost weight A) (size-cong x y k sizes)) (spread-cong A {c = counts x k s} {e = counts y k s} (λ a l. kind-cong k {g = λ i. c i s a} {h = λ i. e i s a} (λ i. same i s a h)))
 
   -- THEOREM. Two sittings of one A, D and weight that agree on lengths and on the counts of every context have one estimate, and one score
   pub same-estimate : estimateOf x ≡ estimateOf y

@@ -18,7 +18,7 @@ use Rattle.estimate.specs.Score.{counts, terms, cost, worths, score}
 use Rattle.estimate.specs.Recursion.{Losses, spread, losses, best, separate, joint, split, tree, estimate, estimateOf}
 use Rattle.estimate.proofs.Integers.{minus}
 use Rattle.estimate.proofs.Spreads.{spread-cong}
-use Rattle.estimate.proofs.Tables.{kind-cong}
+use Rattle.estimate.proofs.Tables.{kind-cong, size-cong}
 use Rattle.estimate.proofs.Optimal.{score-estimate}
 use Rattle.estimate.proofs.Agreeing.{estimate-alike, joint-alike}
 
@@ -106,7 +106,7 @@ module _ (A D weight : ℕ) (π : ℕ → ℕ) (r : Renames A π) (n m : Sample 
 
   losses-renamed : (k : Kind) (s : List ℕ) → T (isContext A D s) → losses x k s ≡ renamed π (losses y) k s
   losses-renamed k s h =
-      ap₂ _+_ (ap (cost weight A) (kind-cong k {g = n} {h = m} sizes))
+      ap₂ _+_ (ap (cost weight A) (size-cong x y k sizes))
       (spread-cong A {c = counts x k s} {e = λ a. counts y k (map π s) (π a)} (λ a l. counts-renamed k s a h l) ∙ spread-permute A π r (counts y k (map π s)))
 
   -- THEOREM. The second's estimate has the new name of a context where the first's has the context, of the same kind; and the scores are the same

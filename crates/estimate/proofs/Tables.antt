@@ -1,7 +1,7 @@
 -- Tables of two samples by eight symbols: their sums, and that the losses worked out of a sitting's table are the sitting's. Assumes nothing.
 use Prim.Native.Nat.{ℕ, _+_, _≤_, _<_}
 use native.Mathlib.Omega.{arith}
-use mathlib.Core.Path.{_≡_, ap₂, _∙_}
+use mathlib.Core.Path.{_≡_, ap, ap₂, fun-ext, _∙_}
 use mathlib.Core.List.{List}
 use lib.ListN.{getD}
 use Rattle.numbers.specs.Limits.{mostSymbols}
@@ -25,6 +25,10 @@ sum-shared t = sum-add mostSymbols (λ a. getD (rowIn t first) a 0) (λ a. getD 
 pub kind-cong : (k : Kind) {g h : Sample → ℕ} → ((i : Sample) → g i ≡ h i) → ofKind k g ≡ ofKind k h
 kind-cong shared e = ap₂ _+_ (e first) (e second)
 kind-cong (own i) e = e i
+
+-- a kind's length goes by the samples' lengths alone
+pub size-cong : (x y : Sitting) (k : Kind) → ((i : Sample) → x .size i ≡ y .size i) → sizeOf x k ≡ sizeOf y k
+size-cong x y k e = ap (λ (n : Sample → ℕ). sizeOf (record { symbols = x .symbols; depth = x .depth; weight = x .weight; size = n; count = x .count }) k) (fun-ext e)
 
 pub table-counts : (x : Sitting) (s : List ℕ) (k : Kind) (a : ℕ) → a < mostSymbols → countsIn (table x s) k a ≡ counts x k s a
 table-counts x s k a l = kind-cong k (λ i. table-count x s i a l)
