@@ -122,14 +122,14 @@ def openings_played(play_them):
 class Kept(unittest.TestCase):
     def test_answers(self):
         scripts = sorted(SCRIPTS.glob("*.script"))
-        self.assertEqual(len(scripts), 6)
+        self.assertEqual(len(scripts), 7)
         for path in scripts:
             printed = "".join(line + "\n" for lines in play(path.read_text()) for line in lines)
             self.assertEqual(printed, path.with_suffix(".answers").read_text(), path.name)
 
     def test_the_crate_plays_them_in_a_row(self):
         """`refusals` first, since only there no store is made yet."""
-        order = ("refusals", "marked", "splits", "weights", "limits", "desks")
+        order = ("refusals", "marked", "splits", "weights", "exchanged", "limits", "desks")
         for kind, file in [("script", "stdin"), ("answers", "stdout")]:
             in_a_row = "".join((SCRIPTS / f"{name}.{kind}").read_text() for name in order)
             self.assertEqual((PLAYER / file).read_text(), in_a_row, file)
