@@ -4,6 +4,7 @@ import subprocess
 from pathlib import Path
 
 from reference import program, salvage
+from reference.alike import files_alike, walk_of_pairs
 from reference.command import Fault
 from reference.difference import Difference, demand_equal
 from reference.inputs import damaged_file, drawn_file, file_to_salvage, fixed_damages, fixed_files
@@ -54,11 +55,25 @@ class BuiltProgram(Built):
         """One whole or damaged file."""
         self.compare(random.choice([drawn_file, damaged_file])(random), tally)
 
+    def compare_exchanged(self, random, tally):
+        """Request E13: of a file and of its like the built program prints the same, changed."""
+        way, files = files_alike(random)
+        printed, like = (self.compare(file, tally) for file in files)
+        asked = way, *(file.hex(" ") for file in files)
+        demand_equal("program, of a file and its like", asked, file=way.output(printed), like=like)
+        tally["program: files and their likes, both built", printed_kind(printed)] += 1
+
     def compare(self, file, tally):
-        expected = program.output(file)
-        demand_equal("program", file.hex(" "), reference=expected, built=self.output(file, file.hex(" ")))
-        kind = expected.strip() if expected.startswith("refused") else "report printed"
-        tally["program: files", kind] += 1
+        """Gives what the built program printed."""
+        expected, printed = program.output(file), self.output(file, file.hex(" "))
+        demand_equal("program", file.hex(" "), reference=expected, built=printed)
+        tally["program: files", printed_kind(expected)] += 1
+        return printed
+
+
+def printed_kind(printed):
+    """What the program prints, for tallies: its refusal, or that it is a report."""
+    return printed.strip() if printed.startswith("refused") else "report printed"
 
 
 class BuiltSalvage(Built):
@@ -124,8 +139,24 @@ class BuiltScripts(Built):
             self.compare(replay + closing, tally)
             tally["scripts: walks and their replay sitting by sitting", ""] += 1
 
+    def compare_exchanged(self, random, tally):
+        """Request E13: sittings and their likes at desks beside each other, as many as a script may hold. Where the built answers
+        are those of the reference, they are held to each other too."""
+        steps, alike, length = [], [], 0
+        walk, pairs = walk_of_pairs(random)
+        while length + len(walk.text()) <= SCRIPT_BYTES:
+            alike += [(way, len(steps) + one, len(steps) + other) for way, one, other in pairs]
+            steps += walk.steps
+            length += len(walk.text())
+            walk, pairs = walk_of_pairs(random)
+        answers = self.compare(steps, tally)
+        for way, one, other in alike:
+            asked = way, *(f"answer {place} (from 0), to the call {steps[place][0].line()}" for place in (one, other))
+            demand_equal("script, of a desk and its like", asked, desk=way.answer(answers[one]), like=answers[other])
+            tally[f"scripts: {steps[one][0].name} at a desk and its like at another, both built", answer_kind(answers[one])] += 1
+
     def compare(self, steps, tally):
-        """Plays the steps' calls in one run and compares each answer."""
+        """Plays the steps' calls in one run and compares each answer. Gives what the built player answered."""
         text = "".join(step.line() + "\n" for step, _ in steps)
         answers = answers_of(self.output(text.encode(), text))
         demand_equal("number of answers", text, reference=len(steps), built=len(answers))
@@ -135,6 +166,7 @@ class BuiltScripts(Built):
                 demand_equal(what, text, reference="\n".join(expected), built="\n".join(given))
             tally[f"scripts: {step.name}", answer_kind(expected)] += 1
         tally["scripts: runs", ""] += 1
+        return answers
 
 
 def answers_of(output):

@@ -15,10 +15,13 @@ from reference.built import BuiltProgram, BuiltSalvage, BuiltScripts
 from reference.checks import CHECKS
 from reference.command import Fault, Parser, run
 from reference.difference import Difference
+from reference.exchange_checks import EXCHANGE_CHECKS
 
 FILES_A_ROUND = 40
+FILES_ALIKE_A_ROUND = 10
 SCRIPTS_A_ROUND = 1
 REPLAYS_A_ROUND = 2
+SCRIPTS_ALIKE_A_ROUND = 1
 SALVAGES_A_ROUND = 40
 ROUNDS = ("rounds", "")
 COMMAND = "python3 -m reference.compare"
@@ -39,12 +42,14 @@ def arguments():
 
 def drawn_kinds(given):
     """What is compared in each round, and how often."""
-    kinds = list(CHECKS)
+    kinds = CHECKS + EXCHANGE_CHECKS
     if given.program is not None:
         kinds.append((BuiltProgram(given.program).compare_drawn, FILES_A_ROUND))
+        kinds.append((BuiltProgram(given.program).compare_exchanged, FILES_ALIKE_A_ROUND))
     if given.scripts is not None:
         kinds.append((BuiltScripts(given.scripts).compare_drawn, SCRIPTS_A_ROUND))
         kinds.append((BuiltScripts(given.scripts).compare_replay, REPLAYS_A_ROUND))
+        kinds.append((BuiltScripts(given.scripts).compare_exchanged, SCRIPTS_ALIKE_A_ROUND))
     if given.salvage is not None:
         kinds.append((BuiltSalvage(given.salvage).compare_drawn, SALVAGES_A_ROUND))
     return kinds
