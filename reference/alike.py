@@ -108,10 +108,10 @@ def pair_in_step(random, desks):
     tight = [needed, needed - 1, random.randrange(needed + 1), sitting.D + 1, MOST_RESERVED, MOST_RESERVED]
     reserved = min(max(random.choice(tight), 1), MOST_RESERVED)
     feeds = feeds_of(random, desks[0], longer(random, sitting.samples))
-    questions = [drawn_report(random, desks[0]) for _ in range(3)] + wrong_feeds(random, desks[0], sitting.A)
-    between = [step for _, step in merged(random, [feeds, questions])]
+    beside = [drawn_report(random, desks[0]), *wrong_feeds(random, desks[0], sitting.A)]
+    calls = [step for _, step in merged(random, [feeds, beside])]
     opening = call("open", desks[0], sitting.A, sitting.D, weight, reserved)
-    first = [opening, *between, call("report", desks[0], SHEET_NUMBERS, 0)]
+    first = [opening, *calls, drawn_report(random, desks[0]), call("report", desks[0], SHEET_NUMBERS, 0)]
     return Pair(way, (first, [like(way, desks[1], step) for step in first]), [(place, place) for place in range(len(first))])
 
 
