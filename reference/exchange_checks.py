@@ -4,7 +4,7 @@ built program is needed."""
 from reference.alike import drawn_way, pair_in_step
 from reference.checks import ENUMERATED, DrawnScale
 from reference.difference import demand_equal
-from reference.estimate import Sitting
+from reference.estimate import SHARED, Sitting
 from reference.inputs import drawn_sample, drawn_sitting, drawn_weight
 from reference.limits import ALPHABETS, DEPTHS, DESKS, ROOMS, SAMPLES
 from reference.rows import estimate
@@ -32,6 +32,14 @@ def check_exchange(random, tally):
     tally[f"exchange: sittings and their likes, {way.words()}", order] += 1
 
 
+def drawn_scale(random):
+    """Few different worths. Of half of them the shared contexts' are less, so that ties within separate trees decide too."""
+    scale = DrawnScale(random, *random.choice(ENUMERATED))
+    less = random.choice([0, 2])
+    scale.worths = {(kind, s): worth - less * (kind == SHARED) for (kind, s), worth in scale.worths.items()}
+    return scale
+
+
 class ChangedScale:
     """Worths that were drawn, at the kinds and contexts that they are changed to."""
 
@@ -44,9 +52,9 @@ class ChangedScale:
 
 
 def check_exchanged_ties(random, tally):
-    """By enumeration over drawn worths, where the tie rules decide nearly everywhere: of the worths changed, the first of the
-    best triples is that of the worths, changed."""
-    scale = DrawnScale(random, *random.choice(ENUMERATED))
+    """By enumeration over drawn worths, where several triples are often best: the one that the tie rules pick is changed as the
+    worths are. No recursion has a part in it."""
+    scale = drawn_scale(random)
     way = drawn_way(random, scale.A)
     (best, triples), (like_best, like_triples) = best_triples(scale), best_triples(ChangedScale(scale, way))
     asked = scale.worths, way
@@ -57,8 +65,8 @@ def check_exchanged_ties(random, tally):
 
 
 def check_calls_alike(random, tally):
-    """Each call at a desk and its like, at another desk of the same store or of another store, get like answers, refusals too.
-    After each, both hold like contexts, and their samples have the same lengths."""
+    """Each call at a desk and its like, at another desk of the same store or of a second, get like answers, refusals too. After
+    each, both hold like contexts and samples."""
     desks = random.sample(DESKS, 2)
     pair = pair_in_step(random, desks)
     players = [Player(), Player()] if random.random() < 0.5 else [Player()] * 2
@@ -82,6 +90,6 @@ def compare_held(sitting, like, way, asked):
 # How many of each are drawn in a round.
 EXCHANGE_CHECKS = [
     (check_exchange, 20),
-    (check_exchanged_ties, 10),
+    (check_exchanged_ties, 30),
     (check_calls_alike, 5),
 ]

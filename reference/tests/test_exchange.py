@@ -5,7 +5,7 @@ from collections import Counter
 from random import Random
 from unittest.mock import patch
 
-from reference import alike, built, estimate, exchange_checks, program, store
+from reference import alike, built, estimate, exchange_checks, program, store, triples
 from reference.alike import drawn_names, drawn_way, files_alike, walk_of_pairs
 from reference.answers import Refused
 from reference.built import SCRIPTS, BuiltProgram, BuiltScripts
@@ -245,6 +245,15 @@ WRONG_ESTIMATES = {
     "second's ties are other than first's": (Recursion, "weigh_own", seconds_split_first),
 }
 
+choice_at = triples.choice_at
+
+
+def seconds_leaf_last(triple, s):
+    """The same in the choices that triples are compared by."""
+    both, first, second = choice_at(triple, s)
+    return both, first, -second
+
+
 fed, reported = store.Store.feed, store.Store.report
 held_with = store.OpenSitting.held_with
 
@@ -370,10 +379,13 @@ class Found(unittest.TestCase):
                 self.demand_found(name, check_calls_alike)
 
     def test_wrong_ties(self):
-        """Of the best triples one with the most contexts of first's own, and one in which the context 1 is shared rather than 0."""
-        for key in (lambda triple: -len(triple.first), lambda triple: ((0,) in triple.shared) - ((1,) in triple.shared)):
-            wrong = patch.object(exchange_checks, "first_by_ties", lambda triples, A, D: min(triples, key=key))
-            with wrong, self.assertRaisesRegex(Difference, "triple of changed worths"):
+        """Of the best triples one with the most contexts of first's own, one in which the context 1 is shared rather than 0, and
+        one by the tie rules but for second's separate tree."""
+        keys = [lambda triple: -len(triple.first), lambda triple: ((0,) in triple.shared) - ((1,) in triple.shared)]
+        picked = [lambda triples, A, D, key=key: min(triples, key=key) for key in keys]
+        wrong = [patch.object(exchange_checks, "first_by_ties", pick) for pick in picked]
+        for definition in [*wrong, patch.object(triples, "choice_at", seconds_leaf_last)]:
+            with definition, self.assertRaisesRegex(Difference, "triple of changed worths"):
                 for seed in range(100):
                     check_exchanged_ties(Random(seed), Counter())
 
