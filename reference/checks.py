@@ -79,7 +79,7 @@ def check_enumeration(random, tally):
 
 
 class DrawnScale:
-    """Few different worths, drawn for each context: most best scores are tied."""
+    """Few different worths, drawn for each context: several triples are often best."""
 
     def __init__(self, random, A, D):
         self.A, self.D = A, D
@@ -94,7 +94,7 @@ class DrawnScale:
 
 
 def check_ties(random, tally):
-    """The same over worths that are drawn, so that the tie rules decide nearly everywhere."""
+    """The same over worths that are drawn, so that the tie rules often decide."""
     scale = DrawnScale(random, *random.choice(ENUMERATED))
     compare_best(scale, scale.worths, tally, "enumeration against recursion: drawn worths", whole=True)
 
