@@ -26,8 +26,8 @@ use Rattle.demands.proofs.ExchangedFeeds.{feeds-by, reports-by}
 -- ---- one open desk
 
 -- an open desk is one of the eight
-no-such-desk : (σ : List ℕ) (d : ℕ) (o : Opening) (p : Progress) → Sound σ → meaning σ .at d ≡ opened o p → noSuchDesk d ≡ false
-no-such-desk σ d o p sound e = go (leb desks d) refl
+is-a-desk : (σ : List ℕ) (d : ℕ) (o : Opening) (p : Progress) → Sound σ → meaning σ .at d ≡ opened o p → noSuchDesk d ≡ false
+is-a-desk σ d o p sound e = go (leb desks d) refl
   where
     go : (t : Bool) → leb desks d ≡ t → t ≡ false
     go false f = refl
@@ -37,7 +37,7 @@ no-such-desk σ d o p sound e = go (leb desks d) refl
 by-lines : (σ : List ℕ) (d : ℕ) (q : Ask) (o : Opening) (p : Progress) → Sound σ → meaning σ .at d ≡ opened o p
     → verdict rules (meaning σ) (atDesk d (asking q)) ≡ verdictOf (linesOf o p q) (askAnswer o p q)
 unfolding verdict verdictOf tableOf tableAt askingTable ownLines answerOf answerAt
-by-lines σ d q o p sound e = rw (e, no-such-desk σ d o p sound e)
+by-lines σ d q o p sound e = rw (e, is-a-desk σ d o p sound e)
 
 record DeskOf {o : Opening} {w : Sample → List ℕ} (s : SittingAt o w) : Type 0 where
   progress : Progress

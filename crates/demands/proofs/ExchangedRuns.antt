@@ -2,23 +2,25 @@
 use Prim.Native.Nat.{ℕ, _≤_, _<_}
 use native.Mathlib.Omega.{arith}
 use mathlib.Core.Path.{_≡_, refl, sym, ap, ap₂, subst, subst₂, fun-ext, _∙_}
-use mathlib.Core.Option.{Option, some}
+use mathlib.Core.Bool.{true}
+use mathlib.Core.Option.{Option·some-injective}
 use mathlib.Core.List.{List, [], _∷_}
 use Rattle.numbers.specs.Limits.{mostSymbols}
-use Rattle.contexts.specs.Sitting.{Sample, Sitting, sittingOf}
+use Rattle.contexts.specs.Sitting.{Sample, Sitting, sittingOf, Progress}
 use Rattle.contexts.proofs.Totals.{Over}
-use Rattle.replay.specs.Room.{Opening, naming}
-use Rattle.replay.specs.Machine.{Act, opening, asking, closing}
-use Rattle.replay.specs.Serial.{Course, Told}
+use Rattle.replay.specs.Room.{Opening, naming, Desk, closed, opened}
+use Rattle.replay.specs.Machine.{Act, opening, asking, closing, isOpened}
+use Rattle.replay.specs.Serial.{Course, Told, struck, sittings}
 use Rattle.replay.specs.Alone.{asks}
+use Rattle.store.specs.Meaning.{meaning}
 use Rattle.rules.specs.Feed.{countedFrom}
 use Rattle.rules.specs.Report.{Reported}
 use Rattle.rules.specs.Rules.{reporting, reported, rules}
 use Rattle.rules.specs.Strings.{stringsOf, sittingFor}
 use Rattle.demands.specs.Demands.{JointEstimate, ItsStrings}
-use Rattle.demands.specs.Exchange.{stringsBy, SittingAt, ReportOn, EachReport, NamedAlike, OfReports}
+use Rattle.demands.specs.Exchange.{stringsBy, ReportOn, EachReport, EachOpen, NamedAlike, OfReports}
 use Rattle.demands.proofs.Demand2.{own}
-use Rattle.demands.proofs.OwnStrings.{up-to, next-answer}
+use Rattle.demands.proofs.OwnStrings.{up-to, own-at, next-answer}
 use Rattle.demands.proofs.Exchange.{estimates-by}
 
 -- ---- what demand 2 tells of a sitting is one thing
@@ -33,12 +35,9 @@ begunWith : List (Told rules) → Opening
 begunWith [] = naming 0 0 0 0
 begunWith (t ∷ ts) = openedBy (t .act)
 
-same-some : (g h : Course rules) → _≡_ {A = Option (Course rules)} (some g) (some h) → g ≡ h
-same-some g h e = cc
-
 module _ {gs : List (Course rules)} {d : ℕ} (a b : ItsStrings gs d) where
   same-course : a .course ≡ b .course
-  same-course = same-some (a .course) (b .course) (sym (a .there) ∙ b .there)
+  same-course = Option·some-injective (a .course) (b .course) (sym (a .there) ∙ b .there)
 
   pub same-named : a .named ≡ b .named
   unfolding openedBy begunWith
@@ -64,27 +63,22 @@ estimate-on {o} {w} {r} a =
     (record { estimate = own _ (s .desk) (a .sheet) (a .place) r h; some-symbols = omega arith; few-symbols = h .fits .alphabet-most; over = h .stands .over })
 
 pub each-report : EachReport
-each-report K σ τ cs os made run before behind said saying d sheet place r many called answered-so =
+each-report K σ τ cs os made run before behind said saying d sheet place r many called answered-so its =
     let far = up-to before behind said saying many (rw (called, answered-so) at run) in
-    let h = next-answer K σ (far .now) (far .next) before said made (far .run) d (reporting sheet place) (reported r) (far .does) in
-    let at : SittingAt (h .its .named) (h .its .strings) = record {
-      room = K;
-      store = σ;
-      made = made;
-      before = before;
-      said = said;
-      now = far .now;
-      run = far .run;
-      desk = d;
-      its = h .its;
-      opened = refl;
-      fed = refl;
-    } in
     record {
-      opening = h .its .named;
-      strings = h .its .strings;
-      is = record { sitting = at; sheet = sheet; place = place; next = far .next; accepted = far .does };
+      sitting = record { room = K; store = σ; made = made; before = before; said = said; now = far .now; run = far .run; desk = d; its = its; opened = refl; fed = refl };
+      sheet = sheet;
+      place = place;
+      next = far .next;
+      accepted = far .does;
     }
+
+pub each-open : EachOpen
+each-open K σ τ cs os made run d is = go (meaning τ .at d) refl is
+  where
+    go : (D : Desk Progress) → meaning τ .at d ≡ D → isOpened D ≡ true → ItsStrings (sittings rules [] (struck rules cs os)) d
+    go closed e t = let z : _≡_ {A = ℕ} 0 1 = cc in absurd (omega arith)
+    go (opened o p) e t = own-at K σ τ cs os made run d o p e .its
 
 -- ---- two
 

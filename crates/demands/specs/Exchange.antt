@@ -1,5 +1,6 @@
--- WHICH STRING COMES FIRST DOES NOT MATTER (document 02, E13), nor which symbol has which name. Each statement follows from demand 2 and `OneEstimate`, for
--- every weight. Proved in proofs/Exchange, ExchangedRuns, ExchangedHolding, ExchangedDesks and ExchangedFiles. Assumes nothing.
+-- WHICH STRING COMES FIRST DOES NOT MATTER (document 02, E13), nor which symbol has which name. What is said of reports follows from demand 2 and `OneEstimate`,
+-- for every weight; what is said of refusals, from their tables. Proved in proofs/Exchange, ExchangedRuns, ExchangedHolding, ExchangedDesks and ExchangedFiles.
+-- Assumes nothing.
 use Prim.Native.Nat.{ℕ, _<_, _≤_}
 use mathlib.Core.Path.{_≡_}
 use mathlib.Core.Bool.{true}
@@ -107,17 +108,13 @@ pub record ReportOn (o : Opening) (w : Sample → List ℕ) (r : Reported) : Typ
   pub next : List ℕ
   pub accepted : DoesThere sitting (reporting sheet place) (answered (reported r)) next
 
--- every accepted report of any run is one
-pub record SomeReportOn (r : Reported) : Type 0 where
-  pub opening : Opening
-  pub strings : Sample → List ℕ
-  pub is : ReportOn opening strings r
-
+-- every accepted report of any run is one, on the strings that demand 2 tells of it
 abbrev pub EachReport : Type 0
 EachReport =
     (K : Making) (σ τ : List ℕ) (cs : List (Call rules)) (os : List (Outcome Answer)) → MadeNew K σ → Run σ cs os τ
     → (before behind : List (Call rules)) (said saying : List (Outcome Answer)) (d sheet place : ℕ) (r : Reported) → length before ≡ length said
-    → cs ≡ before ++ (atDesk d (asking (reporting sheet place)) ∷ behind) → os ≡ said ++ (answered (reported r) ∷ saying) → SomeReportOn r
+    → cs ≡ before ++ (atDesk d (asking (reporting sheet place)) ∷ behind) → os ≡ said ++ (answered (reported r) ∷ saying)
+    → (its : ItsStrings (sittings rules [] (struck rules before said)) d) → ReportOn (its .named) (its .strings) r
 
 -- two openings name the same A, D and weight
 pub record NamedAlike (o p : Opening) : Type 0 where
@@ -125,7 +122,8 @@ pub record NamedAlike (o p : Opening) : Type 0 where
   pub depth : p .depth ≡ o .depth
   pub weight : p .weight ≡ o .weight
 
--- .. and the second sitting's strings v come from the first's. Reservations, stores, desks, sheets, neighbours and the order of the feeds may differ
+-- .. and the second sitting's strings v come from the first's. Reservations, stores, desks, sheets, neighbours and the order of the feeds may differ, and
+-- both may be of one run
 pub record SittingsAlike (o p : Opening) (way : Way (o .symbols)) (w v : Sample → List ℕ) : Type 0 where
   pub named : NamedAlike o p
   pub strings : (i : Sample) → v i ≡ stringsBy way w i
@@ -153,12 +151,18 @@ FedAlike =
 abbrev pub IsOpen : {o : Opening} {w : Sample → List ℕ} → SittingAt o w → Type 0
 IsOpen s = isOpened (meaning (s .now) .at (s .desk)) ≡ true
 
+-- after any run on a newly made store there is a latest sitting at every open desk
+abbrev pub EachOpen : Type 0
+EachOpen =
+    (K : Making) (σ τ : List ℕ) (cs : List (Call rules)) (os : List (Outcome Answer)) → MadeNew K σ → Run σ cs os τ
+    → (d : ℕ) → isOpened (meaning τ .at d) ≡ true → ItsStrings (sittings rules [] (struck rules cs os)) d
+
 -- sample 0 is the first, sample 1 the second
 abbrev pub numberOf : Sample → ℕ
 numberOf first = 0
 numberOf second = 1
 
--- two sittings that are open, with the same reservation: a feed at the one and its like at the other answer the same. (A symbol from A up gets 8 at both)
+-- two sittings that are open, with the same reservation: a feed at the one and its like at the other answer the same (a symbol from A up gets 8 at either)
 abbrev pub FeedsAlike : Type 0
 FeedsAlike =
     (o p : Opening) (way : Way (o .symbols)) (w v : Sample → List ℕ) → SittingsAlike o p way w v → p .reserve ≡ o .reserve

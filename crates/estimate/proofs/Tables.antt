@@ -26,7 +26,7 @@ pub kind-cong : (k : Kind) {g h : Sample → ℕ} → ((i : Sample) → g i ≡ 
 kind-cong shared e = ap₂ _+_ (e first) (e second)
 kind-cong (own i) e = e i
 
--- a kind's length goes by the samples' lengths alone
+-- a kind's length goes by the samples' lengths alone, whatever it is of them: so no more of `sizeOf` is used here
 pub size-cong : (x y : Sitting) (k : Kind) → ((i : Sample) → x .size i ≡ y .size i) → sizeOf x k ≡ sizeOf y k
 size-cong x y k e = ap (λ (n : Sample → ℕ). sizeOf (record { symbols = x .symbols; depth = x .depth; weight = x .weight; size = n; count = x .count }) k) (fun-ext e)
 

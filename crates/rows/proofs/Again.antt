@@ -4,7 +4,7 @@ use native.Mathlib.Nat.{ℕ-set}
 use mathlib.Core.Path.{_≡_, refl, sym, ap, ap₂, subst, _∙_}
 use mathlib.Core.Logic.{∥∥₁-elim, ∥∥₁-map}
 use mathlib.Core.HLevel.{⊥-prop}
-use mathlib.Core.List.{List, [], _∷_, map, map-map, List·Memᴰ, List·Memᴰ·head, List·Memᴰ·tail, Memᴰ·map, Memᴰ·of-map, Perm, Perm·map, Perm·trans, perm-ext-iff-of-nodup, List·Nodup, Pairwise·nil, Pairwise·cons, List·Permᴰ, List·Permᴰ·nil, List·Permᴰ·cons, List·Permᴰ·swap, List·Permᴰ·trans}
+use mathlib.Core.List.{List, [], _∷_, map, map-id, map-map, List·Memᴰ, List·Memᴰ·head, List·Memᴰ·tail, Memᴰ·map, Memᴰ·of-map, Perm, Perm·map, Perm·trans, perm-ext-iff-of-nodup, List·Nodup, Pairwise·nil, Pairwise·cons, List·Permᴰ, List·Permᴰ·nil, List·Permᴰ·cons, List·Permᴰ·swap, List·Permᴰ·trans}
 use lib.ListN.{length, length-map}
 use Rattle.contexts.specs.Sitting.{Sitting}
 use Rattle.rows.specs.Members.{Member, Increasing}
@@ -12,17 +12,17 @@ use Rattle.rows.specs.Rows.{Row, rowOf}
 use Rattle.rows.specs.Exchange.{memberIn, InOrderAgain}
 use Rattle.rows.proofs.Ordering.{increasing-once}
 
--- no two of an increasing list are the same, nor after a change that is one to one on them
-nodup : (xs : List Member) → Increasing xs → List·Nodup xs
-nodup [] p = Pairwise·nil
-nodup (x ∷ xs) p = Pairwise·cons (λ q m e. ∥∥₁-elim m ⊥-prop (λ d. increasing-once x xs p q d (sym e))) (nodup xs (p .1))
-
+-- no two of an increasing list are the same after a change that is one to one on them ..
 nodup-map : (f : Member → Member) (xs : List Member) → Increasing xs → ((p q : Member) → List·Memᴰ p xs → List·Memᴰ q xs → f p ≡ f q → p ≡ q) → List·Nodup (map f xs)
 nodup-map f [] p once = Pairwise·nil
 nodup-map f (x ∷ xs) p once =
     Pairwise·cons
     (λ q m e. ∥∥₁-elim m ⊥-prop (λ d. let y = Memᴰ·of-map f xs d in increasing-once x xs p (y .0) (y .1) (sym (once x (y .0) (List·Memᴰ·head refl) (List·Memᴰ·tail (y .1)) (e ∙ sym (y .2))))))
     (nodup-map f xs (p .1) (λ r q m k. once r q (List·Memᴰ·tail m) (List·Memᴰ·tail k)))
+
+-- .. nor as they are
+nodup : (xs : List Member) → Increasing xs → List·Nodup xs
+nodup xs p = subst List·Nodup (map-id xs) (nodup-map (λ q. q) xs p (λ q r m k e. e))
 
 map-alike : {X Y : Type 0} (f g : X → Y) (xs : List X) → ((x : X) → List·Memᴰ x xs → f x ≡ g x) → map f xs ≡ map g xs
 map-alike f g [] e = refl

@@ -55,7 +55,7 @@ module _ (x : Sitting) where
   there : (k : Kind) (s : List ℕ) → In s (t k) → In s (v (swap k))
   there k s m = subst (In s) (ap t (sym (swap-swap k)) ∙ sym (estimate-exchanged x (swap k))) m
 
-  -- THEOREM
+  -- THEOREM. The exchanged sitting's rows are these, with first's own and second's own exchanged, in order again
   pub rows-exchanged : InOrderAgain exchangedRow (reportOf x) (reportOf (exchanged x))
   unfolding swappedMember rowWith
   rows-exchanged =
@@ -108,7 +108,7 @@ module _ (A D weight : ℕ) (π : ℕ → ℕ) (r : Renames A π) (n m : Sample 
       go t (le l) = count-above A π r (eight (counts x k s)) b l ∙ sym (kind-none y k (map π s) b (λ i. none i (map π s) b l))
       go t (gt l) = under (onto A π r b l)
 
-  -- THEOREM
+  -- THEOREM. The second's rows are the first's, with contexts and counts renamed, in order again
   pub rows-renamed : InOrderAgain (renamedRow A π) (reportOf x) (reportOf y)
   unfolding renamedMember rowWith
   rows-renamed =

@@ -7,19 +7,14 @@ use mathlib.Core.Logic.{_⊎_, inl, inr, ∥∥₁-elim}
 use mathlib.Core.HLevel.{hedberg, collapsible→set}
 use mathlib.Core.List.{List, _∷_, List·isSet, List·Memᴰ, List·Memᴰ·head, List·Memᴰ·tail, List·Memᴰ·cases-cons, Perm·symm, Perm·trans, List·Permᴰ, List·Permᴰ·nil, List·Permᴰ·cons, List·Permᴰ·swap, List·Permᴰ·trans, Permᴰ·symm}
 use Rattle.numbers.proofs.Orders.{less, same, more, order}
-use Rattle.contexts.specs.Sitting.{first, second}
-use Rattle.estimate.specs.Trees.{Kind, shared, own}
+use Rattle.estimate.specs.Trees.{Kind}
 use Rattle.rows.specs.Members.{number}
 use Rattle.rows.specs.Rows.{Row, kindOf}
 use Rattle.rows.specs.Exchange.{memberIn, InOrderAgain}
 use Rattle.rows.proofs.Ordering.{unique-by}
+use Rattle.rows.proofs.Written.{kind-back, made}
 
 -- ---- two rows are the same in one way only
-
-kind-back : (k : Kind) → kindOf (number k) ≡ k
-kind-back shared = refl
-kind-back (own first) = refl
-kind-back (own second) = refl
 
 kind-set : IsSet Kind
 kind-set = hedberg (λ k l. elim (order (number k) (number l)) [
@@ -27,9 +22,6 @@ kind-set = hedberg (λ k l. elim (order (number k) (number l)) [
   | same e ↦ yes (sym (kind-back k) ∙ ap kindOf e ∙ kind-back l)
   | more h ↦ no (λ e. let f = ap number e in omega arith)
 ])
-
-made : Kind → List ℕ → List ℕ → Row
-made k s c = record { kind = k; context = s; counts = c }
 
 by-parts : (q r : Row) → q .kind ≡ r .kind → q .context ≡ r .context → q .counts ≡ r .counts → q ≡ r
 unfolding made

@@ -104,7 +104,7 @@ before-asym p q (inr (e, l)) (inr (f, k)) = omega arith
 pub increasing-once : (x : Member) (xs : List Member) → Increasing (x ∷ xs) → (r : Member) → List·Memᴰ r xs → r ≡ x → ⊥
 increasing-once x xs p r m e = let h = subst (Before x) e (p .0 r m) in before-asym x x h h
 
--- .. also where a member is told of each of the list: of a row, the one that it is of
+-- .. also a list of what has a member each, as rows do, where these increase
 module _ {X : Type 0} (by : X → Member) where
   once-by : (x : X) (xs : List X) → Increasing (map by (x ∷ xs)) → (r : X) → List·Memᴰ r xs → r ≡ x → ⊥
   once-by x xs p r m e = increasing-once (by x) (map by xs) p (by r) (Memᴰ·map by m) (ap by e)

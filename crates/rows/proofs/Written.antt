@@ -40,12 +40,12 @@ pub record Fits (r : Row) : Type 0 where
   pub context : T (isContext mostSymbols deepest (r .context))
   pub counts : length (r .counts) ≡ mostSymbols
 
-kind-back : (k : Kind) → kindOf (number k) ≡ k
+pub kind-back : (k : Kind) → kindOf (number k) ≡ k
 kind-back shared = refl
 kind-back (own first) = refl
 kind-back (own second) = refl
 
-made : Kind → List ℕ → List ℕ → Row
+unfoldable pub made : Kind → List ℕ → List ℕ → Row
 made k s c = record { kind = k; context = s; counts = c }
 
 -- THEOREM. A row's eleven numbers, whatever follows them, read back as the row
