@@ -1,5 +1,5 @@
--- WHICH STRING COMES FIRST DOES NOT MATTER (document 02, E13), nor which symbol has which name. What is said of reports follows from demand 2 and `OneEstimate`,
--- for every weight; what is said of refusals, from their tables. Proved in proofs/Exchange, ExchangedRuns, ExchangedHolding, ExchangedDesks and ExchangedFiles.
+-- WHICH STRING COMES FIRST DOES NOT MATTER (document 02, E13), nor which symbol has which name. That reports are so related follows from demand 2 and
+-- `OneEstimate`, for every weight; what is said of refusals, from their tables. Proved in proofs/Exchange, ExchangedRuns, ExchangedHolding, ExchangedDesks and ExchangedFiles.
 -- Assumes nothing.
 use Prim.Native.Nat.{ℕ, _<_, _≤_}
 use mathlib.Core.Path.{_≡_}
@@ -142,7 +142,7 @@ pub record HeldAlike {A : ℕ} (way : Way A) (D weight from : ℕ) (w : Sample �
 abbrev pub HoldAlike : Type 0
 HoldAlike = (A D weight from : ℕ) (way : Way A) (w : Sample → List ℕ) → ((i : Sample) → Below A (w i)) → HeldAlike way D weight from w
 
--- after a feed and its like the strings are each other's again
+-- a feed adds its symbol to its sample's string (`push`): after a feed and its like the strings are each other's again
 abbrev pub FedAlike : Type 0
 FedAlike =
     (A : ℕ) (way : Way A) (w : Sample → List ℕ) (i : Sample) (a : ℕ) (j : Sample) → push (sampleBy way i) (symbolBy way a) (stringsBy way w) j ≡ stringsBy way (push i a w) j
@@ -186,11 +186,15 @@ pub record FilesAlike (file file′ : List ℕ) (shape shape′ : Shape) (way : 
   pub depth : shape′ .depth ≡ shape .depth
   pub samples : (i : Sample) → sampleIn file′ shape′ i ≡ stringsBy way (sampleIn file shape) i
 
--- "A, D, n, m, row count, score": n and m are exchanged with the samples, all else is the same
+-- "A, D, n, m, row count, score", with n and m exchanged
+abbrev pub exchangedHead : Head → Head
+exchangedHead h = record { alphabet = h .alphabet; depth = h .depth; first = h .second; second = h .first; rows = h .rows; score = h .score }
+
+-- n and m are exchanged with the samples, all else is the same
 abbrev pub headBy : {A : ℕ} → Way A → Head → Head
+headBy exchanging h = exchangedHead h
 headBy (renaming π r) h = h
-headBy exchanging h = record { alphabet = h .alphabet; depth = h .depth; first = h .second; second = h .first; rows = h .rows; score = h .score }
-headBy (both π r) h = record { alphabet = h .alphabet; depth = h .depth; first = h .second; second = h .first; rows = h .rows; score = h .score }
+headBy (both π r) h = exchangedHead h
 
 pub record SameProgram {A : ℕ} (way : Way A) (head head′ : Head) (q r : Reported) : Type 0 where
   pub same-head : head′ ≡ headBy way head
