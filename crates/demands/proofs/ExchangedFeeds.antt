@@ -36,7 +36,7 @@ symbol-within exchanging a l = l
 symbol-within (renaming π r) a l = r .within a l
 symbol-within (both π r) a l = r .within a l
 
-sample-number : (i : Sample) → sampleOf (numberOf i) ≡ i
+pub sample-number : (i : Sample) → sampleOf (numberOf i) ≡ i
 sample-number first = refl
 sample-number second = refl
 

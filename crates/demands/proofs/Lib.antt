@@ -20,4 +20,5 @@ pub mod ExchangedRuns
 pub mod ExchangedHolding
 pub mod ExchangedFeeds
 pub mod ExchangedDesks
+pub mod ExchangedSteps
 pub mod ExchangedFiles

@@ -1,5 +1,5 @@
 -- WHICH STRING COMES FIRST DOES NOT MATTER (document 02, E13), nor which symbol has which name. That reports are so related follows from demand 2 and
--- `OneEstimate`, for every weight; what is said of refusals, from their tables. Proved in proofs/Exchange, ExchangedRuns, ExchangedHolding, ExchangedDesks and ExchangedFiles.
+-- `OneEstimate`, for every weight; what is said of refusals, from their tables. Proved in proofs/Exchange, ExchangedRuns, ExchangedHolding, ExchangedDesks, ExchangedSteps and ExchangedFiles.
 -- Assumes nothing.
 use Prim.Native.Nat.{ℕ, _<_, _≤_}
 use mathlib.Core.Path.{_≡_}
@@ -19,7 +19,7 @@ use Rattle.replay.specs.Machine.{isOpened, asking, Call, atDesk}
 use Rattle.replay.specs.Serial.{struck, sittings}
 use Rattle.store.specs.Meaning.{meaning}
 use Rattle.rules.specs.Report.{Reported}
-use Rattle.rules.specs.Rules.{Answer, Ask, feed, reporting, reported, rules}
+use Rattle.rules.specs.Rules.{Answer, done, Ask, feed, reporting, reported, rules}
 use Rattle.rules.specs.Strings.{push}
 use Rattle.printing.specs.declared.Head.{Head}
 use Rattle.sitting_file.specs.Format.{readOf}
@@ -142,7 +142,7 @@ pub record HeldAlike {A : ℕ} (way : Way A) (D weight from : ℕ) (w : Sample �
 abbrev pub HoldAlike : Type 0
 HoldAlike = (A D weight from : ℕ) (way : Way A) (w : Sample → List ℕ) → ((i : Sample) → Below A (w i)) → HeldAlike way D weight from w
 
--- a feed adds its symbol to its sample's string (`push`): after a feed and its like the strings are each other's again
+-- after a feed and its like the strings are each other's again
 abbrev pub FedAlike : Type 0
 FedAlike =
     (A : ℕ) (way : Way A) (w : Sample → List ℕ) (i : Sample) (a : ℕ) (j : Sample) → push (sampleBy way i) (symbolBy way a) (stringsBy way w) j ≡ stringsBy way (push i a w) j
@@ -169,7 +169,19 @@ FeedsAlike =
     → (one : SittingAt o w) (two : SittingAt p v) → IsOpen one → IsOpen two → (i : Sample) (a : ℕ) → a < o .symbols → (x y : Outcome Answer) (next next′ : List ℕ)
     → DoesThere one (feed (numberOf i) a) x next → DoesThere two (feed (numberOf (sampleBy way i)) (symbolBy way a)) y next′ → y ≡ x
 
--- .. and of any reservations: a report at each, with as long a sheet and the same place, is refused by the same number
+-- where it is accepted, the sitting goes on: at the same desk, open still, and that symbol stands in its string
+pub record GoesOn {o : Opening} {w : Sample → List ℕ} (s : SittingAt o w) (i : Sample) (a : ℕ) (next : List ℕ) : Type 0 where
+  pub sitting : SittingAt o (push i a w)
+  pub same-store : sitting .now ≡ next
+  pub same-desk : sitting .desk ≡ s .desk
+  pub is-open : IsOpen sitting
+
+-- .. so after an accepted feed and its like the two sittings are alike again (`FedAlike`)
+abbrev pub FeedGoesOn : Type 0
+FeedGoesOn =
+    (o : Opening) (w : Sample → List ℕ) (s : SittingAt o w) (i : Sample) (a : ℕ) (next : List ℕ) → DoesThere s (feed (numberOf i) a) (answered done) next → GoesOn s i a next
+
+-- of any reservations: a report at each, with as long a sheet and the same place, is refused by the same number
 abbrev pub ReportsAlike : Type 0
 ReportsAlike =
     (o p : Opening) (way : Way (o .symbols)) (w v : Sample → List ℕ) → SittingsAlike o p way w v
