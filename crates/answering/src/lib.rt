@@ -24,13 +24,11 @@ pub const STORE_NUMBERS: usize = 8192;
 // 512 rows of 11 numbers.
 pub const SHEET_NUMBERS: usize = 5632;
 
-// How many contexts the store has room for, all of them school 0's and reserved by the one desk.
+// How many contexts the store has room for, all of them reserved by the one desk.
 const ROOM: u32 = 256;
 
 // The plain penalty.
 const WEIGHT: u32 = 4;
-
-const SCHOOL: u32 = 0;
 
 const DESK: u32 = 0;
 
@@ -118,16 +116,8 @@ fn seat(store: &mut [u32], shape: Shape)
     requires { store_size room_made ≤ length store.old }
     ensures { Means store.new (seated shape) }
 {
-    store::make(store, ROOM, ROOM, 0);
-    desks::open(
-        store,
-        DESK,
-        shape.alphabet,
-        shape.depth,
-        WEIGHT,
-        SCHOOL,
-        ROOM,
-    );
+    store::make(store, ROOM);
+    desks::open(store, DESK, shape.alphabet, shape.depth, WEIGHT, ROOM);
 }
 
 // Feeds the file's first sample and then its second: they are its last bytes.

@@ -11,7 +11,7 @@ use Rattle.replay.specs.Table.{Outcome, refused, answered}
 use Rattle.rules.specs.Rules.{Answer, done, contexts_left, reported, point}
 use Rattle.calls.specs.Refusals.{refusal_number, outcome_of, room_of, written_of, charted_of, ending_of}
 use Rattle.calls.specs.declared.Refusal.{Refusal}
-use Rattle.calls.specs.declared.Refusal.TheVariants.{Unsound, NoSuchDesk, AlreadyOpen, NotOpen, OutsideLimits, BadReservation, NotOfSitting, SampleFull, PastReservation, SampleEmpty, SheetShort, WeightOutside, NoSuchSchool, AboveAllotment, SampleShort}
+use Rattle.calls.specs.declared.Refusal.TheVariants.{Unsound, NoSuchDesk, AlreadyOpen, NotOpen, OutsideLimits, BadReservation, NoRoom, NotOfSitting, SampleFull, PastReservation, SampleEmpty, SheetShort, WeightOutside, SampleShort}
 use Rattle.calls.specs.declared.Verdict.{Verdict}
 use Rattle.calls.specs.declared.Verdict.TheVariants as verdict
 use Rattle.calls.specs.declared.RoomLeft.{RoomLeft}
@@ -27,8 +27,7 @@ use Rattle.calls.specs.declared.Ending.TheVariants as ending
 unfoldable refusal_by : ℕ → Refusal
 refusal_by n =
     cond (eqb n 1) Unsound (cond (eqb n 2) NoSuchDesk (cond (eqb n 3) AlreadyOpen (cond (eqb n 4) NotOpen (cond (eqb n 5) OutsideLimits (cond (eqb n 6) BadReservation
-    (cond (eqb n 8) NotOfSitting (cond (eqb n 9) SampleFull (cond (eqb n 10) PastReservation (cond (eqb n 11) SampleEmpty (cond (eqb n 12) SheetShort (cond (eqb n 20) WeightOutside
-    (cond (eqb n 22) NoSuchSchool (cond (eqb n 23) AboveAllotment SampleShort)))))))))))))
+    (cond (eqb n 7) NoRoom (cond (eqb n 8) NotOfSitting (cond (eqb n 9) SampleFull (cond (eqb n 10) PastReservation (cond (eqb n 11) SampleEmpty (cond (eqb n 12) SheetShort (cond (eqb n 20) WeightOutside SampleShort))))))))))))
 
 back : (why : Refusal) → refusal_by (refusal_number why) ≡ why
 unfolding refusal_by
@@ -38,14 +37,13 @@ back AlreadyOpen = refl
 back NotOpen = refl
 back OutsideLimits = refl
 back BadReservation = refl
+back NoRoom = refl
 back NotOfSitting = refl
 back SampleFull = refl
 back PastReservation = refl
 back SampleEmpty = refl
 back SheetShort = refl
 back WeightOutside = refl
-back NoSuchSchool = refl
-back AboveAllotment = refl
 back SampleShort = refl
 
 -- THEOREM. No two refusals have one number

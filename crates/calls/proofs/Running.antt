@@ -8,13 +8,12 @@ use native.Mathlib.Numerals.{add-one}
 use lib.ListN.{length, drop, get_or, drop_of_length-le}
 use lib.Seq.{drop-cons}
 use Rattle.contexts.specs.Sitting.{Progress}
-use Rattle.replay.specs.Room.{size, Room}
+use Rattle.replay.specs.Room.{Room}
 use Rattle.replay.specs.Table.{Outcome, refused, answered}
 use Rattle.replay.specs.Machine.{verdict, move, shift, settle}
 use Rattle.store.specs.Layout.{store_size, room}
 use Rattle.store.specs.Sound.{soundb}
 use Rattle.store.specs.Meaning.{meaning}
-use Rattle.store.proofs.Fitting.{room_made_lem}
 use Rattle.rules.specs.Rules.{Answer, done, rules}
 use Rattle.calls.specs.Promises.{Moves}
 use Rattle.calls.specs.Run.{FeedRun, then_rest, feeding, fed_run, Runs}
@@ -30,9 +29,12 @@ move_made : (ρ : Room Progress) (d k a : ℕ) → (move rules ρ (feeding d k a
 unfolding move shift
 move_made ρ d k a = settled_made (verdict rules ρ (feeding d k a)) ρ (shift rules ρ (feeding d k a)) refl
 
+room_made_lem : (s : List ℕ) → (meaning s).made ≡ room s
+unfolding meaning
+room_made_lem s = refl
+
 pub room_moved : (x y : List ℕ) (d k a : ℕ) (o : Outcome Answer) → soundb x ≡ true → Moves x (feeding d k a) o y → room y ≡ room x
-room_moved x y d k a o h m =
-    sym (room_made_lem y (m.stays_sound h)) ∙ ap (λ (ρ : Room Progress). size ρ.made) (m.moves h) ∙ ap size (move_made (meaning x) d k a) ∙ room_made_lem x h
+room_moved x y d k a o h m = sym (room_made_lem y) ∙ ap (λ (ρ : Room Progress). ρ.made) (m.moves h) ∙ move_made (meaning x) d k a ∙ room_made_lem x
 
 -- ---- a run with n accepted feeds before it
 unfoldable pub ahead : ℕ → FeedRun → FeedRun

@@ -5,7 +5,7 @@ use Rattle.numbers.specs.Limits.{row_width}
 use Rattle.rows.specs.Rows.{read_rows}
 use Rattle.rules.specs.Rules.{Answer, done, contexts_left, reported, point}
 use Rattle.calls.specs.declared.Refusal.{Refusal}
-use Rattle.calls.specs.declared.Refusal.TheVariants.{Unsound, NoSuchDesk, AlreadyOpen, NotOpen, OutsideLimits, BadReservation, NotOfSitting, SampleFull, PastReservation, SampleEmpty, SheetShort, WeightOutside, NoSuchSchool, AboveAllotment, SampleShort}
+use Rattle.calls.specs.declared.Refusal.TheVariants.{Unsound, NoSuchDesk, AlreadyOpen, NotOpen, OutsideLimits, BadReservation, NoRoom, NotOfSitting, SampleFull, PastReservation, SampleEmpty, SheetShort, WeightOutside, SampleShort}
 use Rattle.calls.specs.declared.Verdict.{Verdict}
 use Rattle.calls.specs.declared.Verdict.TheVariants as verdict
 use Rattle.calls.specs.declared.RoomLeft.{RoomLeft}
@@ -24,14 +24,13 @@ refusal_number AlreadyOpen = 3
 refusal_number NotOpen = 4
 refusal_number OutsideLimits = 5
 refusal_number BadReservation = 6
+refusal_number NoRoom = 7
 refusal_number NotOfSitting = 8
 refusal_number SampleFull = 9
 refusal_number PastReservation = 10
 refusal_number SampleEmpty = 11
 refusal_number SheetShort = 12
 refusal_number WeightOutside = 20
-refusal_number NoSuchSchool = 22
-refusal_number AboveAllotment = 23
 refusal_number SampleShort = 24
 
 -- "answers only that it was done", or the refusal's number alone

@@ -4,7 +4,7 @@ ghost use Rattle.calls.specs.Refusals.{refusal_number};
 
 use chart::Chart;
 
-// The refusals of documents 01 and 02 that a call at a store can get. 7 is none of them: demands/specs/Demands `NeverSeven`.
+// The refusals of documents 01 and 02 that a call at a store can get.
 #[derive(Drop)]
 pub enum Refusal {
     Unsound,
@@ -13,14 +13,13 @@ pub enum Refusal {
     NotOpen,
     OutsideLimits,
     BadReservation,
+    NoRoom,
     NotOfSitting,
     SampleFull,
     PastReservation,
     SampleEmpty,
     SheetShort,
     WeightOutside,
-    NoSuchSchool,
-    AboveAllotment,
     SampleShort,
 }
 
@@ -77,14 +76,13 @@ pub fn number_of(why: Refusal) -> u32
         Refusal::NotOpen => 4,
         Refusal::OutsideLimits => 5,
         Refusal::BadReservation => 6,
+        Refusal::NoRoom => 7,
         Refusal::NotOfSitting => 8,
         Refusal::SampleFull => 9,
         Refusal::PastReservation => 10,
         Refusal::SampleEmpty => 11,
         Refusal::SheetShort => 12,
         Refusal::WeightOutside => 20,
-        Refusal::NoSuchSchool => 22,
-        Refusal::AboveAllotment => 23,
         Refusal::SampleShort => 24,
     }
 }

@@ -22,25 +22,25 @@ use Rattle.records.specs.Records.{keys, rises, lookup, blank}
 use Rattle.records.specs.Held.{keep, of_desk}
 use Rattle.records.proofs.Keeping.{lookup_keep}
 use Rattle.records.proofs.Counting.{count_blank}
-use Rattle.replay.specs.Room.{Opening, opened, Allotted}
+use Rattle.replay.specs.Room.{Opening, opened, reserved}
 use Rattle.replay.specs.Table.{answered}
 use Rattle.replay.specs.Machine.{opening, at_desk, moved, shift}
-use Rattle.replay.proofs.Allotments.{allotted_shift}
-use Rattle.store.specs.Layout.{symbols_at, depth_at, weight_at, school_at, reserve_at, size_at, slots_at, records_in}
+use Rattle.store.specs.Layout.{symbols_at, depth_at, weight_at, reserve_at, size_at, slots_at, records_in}
 use Rattle.store.specs.Sound.{of_alphabet, desk_ok, held_by, record_ok, soundb}
 use Rattle.store.specs.Plain.{Open}
 use Rattle.store.specs.Meaning.{progress_at, meaning}
 use Rattle.store.proofs.Desks.{stands_desk}
 use Rattle.store.proofs.Passing.{passed, passes}
-use Rattle.store.proofs.Fitting.{desk_opened, desk_closed, meaning_allotted, allotted_reserves}
+use Rattle.store.proofs.Fitting.{desk_opened, desk_closed}
 use Rattle.rules.specs.Feed.{empty_progress}
 use Rattle.rules.specs.Rules.{done, rules}
 use Rattle.calls.specs.Promises.{Moves}
 use Rattle.calls.proofs.Keeping.{moves_done}
 use Rattle.changes.specs.Changes.{Opened}
-use Rattle.changes.proofs.Granting.{Granted, limited, light, one_of_two, granted}
+use Rattle.changes.proofs.Leaving.{left_is}
+use Rattle.changes.proofs.Granting.{Granted, limited, light, granted}
 use Rattle.changes.proofs.Vacant.{not_there, none_there}
-use Rattle.changes.proofs.Others.{Apart, with, meaning_with, other_desk, other_record}
+use Rattle.changes.proofs.Others.{Apart, with, meaning_with, reserves_with, other_desk, other_record}
 
 zeros_below : (A : ℕ) → 1 ≤ A → T (all (of_alphabet A) (0 ∷ 0 ∷ 0 ∷ 0 ∷ 0 ∷ 0 ∷ []))
 unfolding all
@@ -61,9 +61,6 @@ module _ (s t : List ℕ) (d : ℕ) (o : Opening) (h : soundb s ≡ true) (n : O
 
   weight_is : weight_at t d ≡ o.weight
   weight_is = ap (λ (p : Opening). p.weight) x.named
-
-  school_is : school_at t d ≡ o.school
-  school_is = ap (λ (p : Opening). p.school) x.named
 
   reserve_is : reserve_at t d ≡ o.reserve
   reserve_is = ap (λ (p : Opening). p.reserve) x.named
@@ -103,7 +100,6 @@ module _ (s t : List ℕ) (d : ℕ) (o : Opening) (h : soundb s ≡ true) (n : O
     most = omega (arith, (limited o g.ready.limits).most, symbols_are);
     depth = omega (arith, (limited o g.ready.limits).deep, depth_is);
     weight = omega (arith, light o g.ready.weight, weight_is);
-    school = omega (arith, one_of_two o g.ready.school, school_is);
     some = omega (arith, g.some, reserve_is);
     sizes = λ i. omega (arith, x.empty i);
     within = rw (x.records_same, none_there s d h n) (omega arith);
@@ -126,26 +122,23 @@ module _ (s t : List ℕ) (d : ℕ) (o : Opening) (h : soundb s ≡ true) (n : O
       (λ j l. let test = all_at (record_ok s (records_in s)) (records_in s) j [] (passed s h).each l in
       other_record s t d apart (get_or (records_in s) j []) (not_there s d h n (get_or (records_in s) j []) test) test)
 
-  moved_opened : meaning t ≡ shift rules (meaning s) (at_desk d (opening o))
-  unfolding shift meaning moved
-  moved_opened = meaning_opened ∙ rw (desk_closed s d n)
-
-  -- the new reservation fits into its school's room
-  allotted_opened : Allotted (meaning t)
-  allotted_opened = subst Allotted (sym moved_opened) (allotted_shift rules (meaning s) d (opening o) done (granted (meaning s) d o g) (meaning_allotted s h))
-
   sound_opened : soundb t ≡ true
+  unfolding reserved
   sound_opened =
       let p = passed s h in
       let f = p.framed in
       let rooms = x.beside.room_same in
       passes t (record {
-        framed = record { some = omega (arith, f.some); most = omega (arith, f.most); long = omega (arith, f.long, x.beside.long); few = omega (arith, f.few, x.used_same); allotments = omega (arith, f.allotments, x.beside.allotment_same) };
+        framed = record { some = omega (arith, f.some); most = omega (arith, f.most); long = omega (arith, f.long, x.beside.long); few = omega (arith, f.few, x.used_same) };
         up = subst (λ (rs : List (List ℕ)). T (rises 0 (keys rs))) (sym x.records_same) p.up;
         each = subst (λ (rs : List (List ℕ)). T (all (record_ok t (records_in t)) rs)) (sym x.records_same) each_record;
         each_desk = every_of desks (desk_ok t (records_in t)) each_desk;
-        reserves = allotted_reserves t allotted_opened;
+        reserves = reserves_with s t d apart (opened o (empty_progress o)) meaning_opened g.ready.desk (omega (arith, p.reserves, g.fits, left_is s));
       })
+
+  moved_opened : meaning t ≡ shift rules (meaning s) (at_desk d (opening o))
+  unfolding shift meaning moved
+  moved_opened = meaning_opened ∙ rw (desk_closed s d n)
 
   -- THEOREM. A store whose desk d was opened with o keeps the promise of an opening
   pub opened_moves : Moves s (at_desk d (opening o)) (answered done) t

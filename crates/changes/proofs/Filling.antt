@@ -8,7 +8,7 @@ use lib.Dec.{T, eqb→eq}
 use lib.ListN.{length, get_or}
 use Rattle.numbers.specs.Limits.{desks}
 use Rattle.numbers.specs.Sum.{sum}
-use Rattle.numbers.proofs.Tests.{left, right}
+use Rattle.numbers.proofs.Tests.{left, right, is_true}
 use Rattle.numbers.proofs.Orders.{less, same, more, order}
 use Rattle.numbers.proofs.Sums.{sum_mono}
 use Rattle.contexts.specs.Keys.{desk_of}
@@ -19,13 +19,11 @@ use Rattle.records.specs.Held.{held, keep, of_desk}
 use Rattle.records.proofs.Keeping.{held_keep}
 use Rattle.records.proofs.Finding.{place_held}
 use Rattle.recording.proofs.Desks.{length_desks}
-use Rattle.replay.specs.Room.{reserved}
-use Rattle.store.specs.Layout.{room, used, reserve_at, records_in}
-use Rattle.store.specs.Sound.{held_by}
+use Rattle.store.specs.Layout.{room, used, is_open, reserve_at, records_in}
+use Rattle.store.specs.Sound.{held_by, reserved_at}
 use Rattle.store.specs.Plain.{Open}
-use Rattle.store.specs.Meaning.{desk_at, meaning}
 use Rattle.store.proofs.Parts.{records_length}
-use Rattle.store.proofs.Fitting.{desk_opened, open?, room_made_lem, meaning_fits}
+use Rattle.store.proofs.Fitting.{open?}
 use Rattle.store.proofs.Standing.{sound_stands}
 use Rattle.changes.specs.FedStore.{Acceptable, recent_at, is_counted, missing_if, records_fed}
 use Rattle.changes.proofs.Recent.{recent_within}
@@ -49,10 +47,9 @@ module _ (s : List ℕ) (d : ℕ) (i : Sample) (a : ℕ) (p : Acceptable s d i a
       ]
 
   -- a desk's records are within its reservation, which is none where it is not open
-  desk_within : (e : ℕ) → e < desks → length (keep (of_desk e) (records_fed s d i a)) ≤ reserved (desk_at s e)
-  unfolding reserved
+  desk_within : (e : ℕ) → e < desks → length (keep (of_desk e) (records_fed s d i a)) ≤ reserved_at s e
   desk_within e l = elim (open? s e) [
-    | yes o ↦ rw (desk_opened s e o) (held_within e o)
+    | yes o ↦ rw (is_true (is_open s e) o.opened) (held_within e o)
     | no n ↦ elim (order 0 (length (keep (of_desk e) (records_fed s d i a)))) [
       | less m ↦ absurd (n (stranger m))
       | same q ↦ omega arith
@@ -70,12 +67,11 @@ module _ (s : List ℕ) (d : ℕ) (i : Sample) (a : ℕ) (p : Acceptable s d i a
 
   -- all records together
   pub room_enough : length (records_fed s d i a) ≤ room s
-  unfolding meaning
   room_enough =
       let rs = records_fed s d i a in
       let whole = length_desks desks rs (λ n l. let w = owned_then (key (get_or rs n [])) (place_held (key (get_or rs n [])) n rs l refl) in rw (owned_desk s p.sound (key (get_or rs n [])) w) w.at_open.desk) in
-      let each : sum desks (λ e. length (keep (of_desk e) rs)) ≤ sum desks (λ e. reserved (desk_at s e)) = sum_mono desks desk_within in
-      omega (arith, (meaning_fits s p.sound).reservations, room_made_lem s p.sound)
+      let each : sum desks (λ e. length (keep (of_desk e) rs)) ≤ sum desks (reserved_at s) = sum_mono desks desk_within in
+      omega (arith, (sound_stands s p.sound).reservations)
 
   -- THEOREM. The records in use and those that it adds are at most K
   pub room_missing : used s + missing_if (is_counted s d i) d (recent_at s d i) (records_in s) ≤ room s

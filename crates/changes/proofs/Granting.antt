@@ -3,14 +3,13 @@ use Prim.Native.Nat.{ℕ, ◌≤◌, ◌<◌}
 use native.Mathlib.Omega.{arith}
 use mathlib.Core.Path.{◌≡◌, refl}
 use mathlib.Core.Bool.{Bool, true, false, ◌||◌}
-use borrow.Author.Tests.{le-leb, lt-leb, le-ltb, lt-ltb, eq-eqb, ne_eqb, leb-false, ltb-false}
+use borrow.Author.Tests.{le-leb, lt-leb, le-ltb, lt-ltb, eq-eqb, ne_eqb, ltb-false}
 use lib.Dec.{ltb}
-use Rattle.numbers.specs.Limits.{fewest_symbols, most_symbols, deepest, most_weight, desks, schools}
+use Rattle.numbers.specs.Limits.{fewest_symbols, most_symbols, deepest, most_weight, desks}
 use Rattle.contexts.specs.Sitting.{Progress}
-use Rattle.replay.specs.Room.{size, Opening, closed, opened, Room, left, left_for, Allotted}
+use Rattle.replay.specs.Room.{Opening, closed, opened, Room, left}
 use Rattle.replay.specs.Table.{refused, answered, verdict_of}
-use Rattle.replay.specs.Machine.{opening, at_desk, outside_limits, weight_outside, no_such_school, zero_or_above_k, above_school_room, above_room_left, opening_table, table_at, table_of, answer_at, answer_of, verdict}
-use Rattle.replay.proofs.Allotments.{own_part}
+use Rattle.replay.specs.Machine.{opening, at_desk, outside_limits, weight_outside, zero_or_above_k, above_room_left, opening_table, table_at, table_of, answer_at, answer_of, verdict}
 use Rattle.rules.specs.Rules.{done, rules}
 
 -- ---- A and D within their limits
@@ -45,27 +44,21 @@ pub light : (o : Opening) → weight_outside o ≡ false → o.weight ≤ most_w
 unfolding weight_outside
 light o e = ltb-false most_weight o.weight e
 
--- .. and the school
-pub one_of_two : (o : Opening) → no_such_school o.school ≡ false → o.school < schools
-one_of_two o e = leb-false schools o.school e
-
 -- ---- the way through the table
 
--- the reservation is judged: in a room whose schools keep to their allotments, at one of the eight desks, which is closed, for limits that hold
+-- the reservation is judged: at one of the eight desks, which is closed, for limits that hold
 pub record Ready (ρ : Room Progress) (d : ℕ) (o : Opening) : Type 0 where
-  pub allotted : Allotted ρ
   pub desk : d < desks
   pub shut : ρ.at d ≡ closed
   pub limits : outside_limits o ≡ false
   pub weight : weight_outside o ≡ false
-  pub school : no_such_school o.school ≡ false
 
 -- the opening is granted
 pub record Granted (ρ : Room Progress) (d : ℕ) (o : Opening) : Type 0 where
   pub ready : Ready ρ d o
   pub some : 1 ≤ o.reserve
-  pub in_room : o.reserve ≤ size ρ.made
-  pub fits : o.reserve ≤ left_for ρ o.school
+  pub in_room : o.reserve ≤ ρ.made
+  pub fits : o.reserve ≤ left ρ
 
 module _ (ρ : Room Progress) (d : ℕ) (o : Opening) where
   -- 2: "desk number above 7"
@@ -88,50 +81,25 @@ module _ (ρ : Room Progress) (d : ℕ) (o : Opening) where
   unfolding verdict table_of table_at opening_table verdict_of
   heavy l e within out = rw (lt-leb desks d l, e, within, out)
 
-  -- 22: "a school not 0 or 1 .. after 5 (and after 20 ..)"
-  pub no_school : d < desks → ρ.at d ≡ closed → outside_limits o ≡ false → weight_outside o ≡ false → schools ≤ o.school → verdict rules ρ (at_desk d (opening o)) ≡ refused 22
-  unfolding verdict table_of table_at opening_table verdict_of
-  no_school l e within light out = rw (lt-leb desks d l, e, within, light, le-leb schools o.school out)
-
   -- 6: "reservation 0 ..
   pub zero_reserved : Ready ρ d o → o.reserve ≡ 0 → verdict rules ρ (at_desk d (opening o)) ≡ refused 6
   unfolding verdict table_of table_at opening_table verdict_of zero_or_above_k
-  zero_reserved w z = rw (lt-leb desks d w.desk, w.shut, w.limits, w.weight, w.school, eq-eqb o.reserve 0 z)
+  zero_reserved w z = rw (lt-leb desks d w.desk, w.shut, w.limits, w.weight, eq-eqb o.reserve 0 z)
 
   -- .. or above K"
-  pub above_room : Ready ρ d o → 1 ≤ o.reserve → size ρ.made < o.reserve → verdict rules ρ (at_desk d (opening o)) ≡ refused 6
+  pub above_room : Ready ρ d o → 1 ≤ o.reserve → ρ.made < o.reserve → verdict rules ρ (at_desk d (opening o)) ≡ refused 6
   unfolding verdict table_of table_at opening_table verdict_of zero_or_above_k
-  above_room w z m = rw (lt-leb desks d w.desk, w.shut, w.limits, w.weight, w.school, ne_eqb o.reserve 0 (λ q. omega arith), lt-ltb (size ρ.made) o.reserve m)
+  above_room w z m = rw (lt-leb desks d w.desk, w.shut, w.limits, w.weight, ne_eqb o.reserve 0 (λ q. omega arith), lt-ltb ρ.made o.reserve m)
 
-  -- 23: "an opening above its school's room .. after 6 and before 7"
-  pub above_own : Ready ρ d o → 1 ≤ o.reserve → o.reserve ≤ size ρ.made → left_for ρ o.school < o.reserve → verdict rules ρ (at_desk d (opening o)) ≡ refused 23
-  unfolding verdict table_of table_at opening_table verdict_of zero_or_above_k above_school_room
-  above_own w z m k =
-      rw (
-        lt-leb desks d w.desk,
-        w.shut,
-        w.limits,
-        w.weight,
-        w.school,
-        ne_eqb o.reserve 0 (λ q. omega arith),
-        le-ltb (size ρ.made) o.reserve m,
-        lt-ltb (left_for ρ o.school) o.reserve k,
-      )
+  -- 7: "reservation above the room left"
+  pub above_left : Ready ρ d o → 1 ≤ o.reserve → o.reserve ≤ ρ.made → left ρ < o.reserve → verdict rules ρ (at_desk d (opening o)) ≡ refused 7
+  unfolding verdict table_of table_at opening_table verdict_of zero_or_above_k above_room_left
+  above_left w z m k =
+      rw (lt-leb desks d w.desk, w.shut, w.limits, w.weight, ne_eqb o.reserve 0 (λ q. omega arith), le-ltb ρ.made o.reserve m, lt-ltb (left ρ) o.reserve k)
 
-  -- done: a school's room is part of the room left, so 7 does not apply
+  -- done
   pub granted : Granted ρ d o → verdict rules ρ (at_desk d (opening o)) ≡ answered done
-  unfolding verdict table_of table_at opening_table verdict_of zero_or_above_k above_school_room above_room_left answer_of answer_at
+  unfolding verdict table_of table_at opening_table verdict_of zero_or_above_k above_room_left answer_of answer_at
   granted g =
       let w = g.ready in
-      let part = own_part ρ w.allotted o.school (one_of_two o w.school) in
-      rw (
-        lt-leb desks d w.desk,
-        w.shut,
-        w.limits,
-        w.weight,
-        w.school,
-        ne_eqb o.reserve 0 (λ q. omega (arith, g.some)),
-        le-ltb (size ρ.made) o.reserve g.in_room,
-        le-ltb (left_for ρ o.school) o.reserve g.fits,
-        le-ltb (left ρ) o.reserve (omega (arith, g.fits)),
-      )
+      rw (lt-leb desks d w.desk, w.shut, w.limits, w.weight, ne_eqb o.reserve 0 (λ q. omega (arith, g.some)), le-ltb ρ.made o.reserve g.in_room, le-ltb (left ρ) o.reserve g.fits)

@@ -10,11 +10,13 @@ use lib.Dec.{T, eqb}
 use lib.ListN.{drop, get_or}
 use lib.Seq.{get_or-take, get_or-drop}
 use Rattle.numbers.specs.Limits.{deepest, longest, desks}
-use Rattle.numbers.specs.Sum.{one}
+use Rattle.numbers.specs.Sum.{one, sum}
 use Rattle.numbers.proofs.Orders.{less, same, more, order}
+use Rattle.numbers.proofs.Sums.{sum_cong}
 use Rattle.contexts.specs.Context.{is_context}
 use Rattle.contexts.specs.Sitting.{Sample, first, second, same_sample}
 use Rattle.store.specs.Layout.{desk_start, field, symbols_at, depth_at, size_field, recent_field, size_at, slots_at, opening_numbers, desk_numbers}
+use Rattle.store.specs.Sound.{reserved_at}
 use Rattle.store.specs.Plain.{Open}
 use Rattle.store.proofs.Standing.{sound_stands}
 use Rattle.changes.specs.FedStore.{FedStore, Acceptable, shifted}
@@ -43,7 +45,7 @@ shifted_below a A slots zero l b each = b
 shifted_below a A slots (suc k) l b each = rw (get_or-take 5 slots k 0 (omega arith)) (each k (omega arith))
 
 module _ (s t : List ℕ) (d : ℕ) (i : Sample) (a : ℕ) (f : FedStore s t d i a) where
-  -- open or not, A, D, the weight, the school and the reservation
+  -- open or not, A, D, the weight and the reservation
   pub limit_same : (e n : ℕ) → e < desks → n < opening_numbers → field t e n ≡ field s e n
   limit_same e n l m = elim (same? e d) [
     | yes q ↦ rw q (f.limits_same n m)
@@ -68,6 +70,12 @@ module _ (s t : List ℕ) (d : ℕ) (i : Sample) (a : ℕ) (f : FedStore s t d i
 
   pub context_same : (e : ℕ) → e < desks → (c : List ℕ) → is_context (symbols_at t e) (depth_at t e) c ≡ is_context (symbols_at s e) (depth_at s e) c
   context_same e l c = ap₂ (λ (A D : ℕ). is_context A D c) (limit_same e 1 l (omega arith)) (limit_same e 2 l (omega arith))
+
+  pub reserved_same : (e : ℕ) → e < desks → reserved_at t e ≡ reserved_at s e
+  reserved_same e l = ap₂ (λ (m n : ℕ). cond (eqb m 1) n 0) (limit_same e 0 l (omega arith)) (limit_same e 4 l (omega arith))
+
+  pub reservations_same : sum desks (reserved_at t) ≡ sum desks (reserved_at s)
+  reservations_same = sum_cong desks reserved_same
 
   module _ (p : Acceptable s d i a) where
     -- "0 to 2,048 symbols"

@@ -11,7 +11,7 @@ use Rattle.numbers.specs.Limits.{deepest, desks}
 use Rattle.numbers.specs.Sum.{one}
 use Rattle.numbers.proofs.Orders.{less, same, more, order}
 use Rattle.contexts.specs.Sitting.{Sample, same_sample}
-use Rattle.store.specs.Layout.{header_size, room, first_allotment, desk_start, field, size_field, recent_field, size_at, slots_at, opening_numbers, desk_numbers}
+use Rattle.store.specs.Layout.{header_size, room, desk_start, field, size_field, recent_field, size_at, slots_at, opening_numbers, desk_numbers}
 use Rattle.store.proofs.Standing.{slots_long}
 use Rattle.changes.specs.FedStore.{shifted}
 use Rattle.changes.specs.Noted.{noted, Places}
@@ -45,9 +45,6 @@ module _ (s u : List ℕ) (h : Headed s u) (d : ℕ) (l : d < desks) (i : Sample
 
   pub room_stays : room done ≡ room s
   room_stays = let f = fields_of i in before 0 (λ z. omega arith) (λ z. omega arith) (omega (arith, f.slots, f.low)) (omega arith)
-
-  pub allotment_stays : first_allotment done ≡ first_allotment s
-  allotment_stays = let f = fields_of i in before 2 (λ z. omega arith) (λ z. omega arith) (omega (arith, f.slots, f.low)) (omega arith)
 
   pub others_stay : (e f : ℕ) → e < desks → e ≢ d → f < desk_numbers → field done e f ≡ field s e f
   others_stay e f n q b =

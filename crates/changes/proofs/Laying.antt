@@ -19,9 +19,9 @@ use Rattle.changes.specs.Changes.{fresh_desk, Opened}
 
 -- ---- the part: zeros, then the numbers that the opening names
 
-pub laid_out : (l₀ l : List ℕ) (i A D weight school r : ℕ) → length l₀ ≡ desk_numbers → desk_numbers ≤ i → i ≤ desk_numbers → l ≡ replicate i 0 ++ drop i l₀
-    → set (set (set (set (set (set l 0 1) 1 A) 2 D) 3 weight) 4 school) 5 r ≡ fresh_desk (naming A D weight school r)
-laid_out l₀ l i A D weight school r long low high e =
+pub laid_out : (l₀ l : List ℕ) (i A D weight r : ℕ) → length l₀ ≡ desk_numbers → desk_numbers ≤ i → i ≤ desk_numbers → l ≡ replicate i 0 ++ drop i l₀
+    → set (set (set (set (set l 0 1) 1 A) 2 D) 3 weight) 4 r ≡ fresh_desk (naming A D weight r)
+laid_out l₀ l i A D weight r long low high e =
     let all : i ≡ desk_numbers = omega arith in
     let none : drop desk_numbers l₀ ≡ [] = drop_of_length-le l₀ {i = desk_numbers} (le_of_eq long) in
     let zeros : l ≡ replicate desk_numbers 0 = e ∙ rw (all, none) in
@@ -90,9 +90,8 @@ module _ (s : List ℕ) (d : ℕ) (o : Opening) (long : header_size ≤ length s
       let p = own_field 1 in
       let q = own_field 2 in
       let w = own_field 3 in
-      let v = own_field 4 in
-      let r = own_field 5 in
-      λ j. record { symbols = p j; depth = q j; weight = w j; school = v j; reserve = r j }
+      let r = own_field 4 in
+      λ j. record { symbols = p j; depth = q j; weight = w j; reserve = r j }
 
   records_now : records_in (laid s d ys) ≡ records_in s
   unfolding records_in
@@ -101,7 +100,7 @@ module _ (s : List ℕ) (d : ℕ) (o : Opening) (long : header_size ≤ length s
   -- THEOREM. What the code leaves is the store with desk d opened
   pub opened_now : Opened s (laid s d ys) d o
   opened_now = record {
-    beside = record { room_same = before 0 (omega arith); allotment_same = before 2 (omega arith); others = others_now; past = later (store_size (room s)) (omega arith); long = all_long };
+    beside = record { room_same = before 0 (omega arith); others = others_now; past = later (store_size (room s)) (omega arith); long = all_long };
     used_same = before 1 (omega arith);
     records_same = records_now;
     marked = own_field 0;

@@ -18,13 +18,13 @@ use Rattle.contexts.proofs.Strings.{begins→take}
 use Rattle.contexts.proofs.Followed.{context_take}
 use Rattle.records.specs.Held.{keep, of_desk}
 use Rattle.records.specs.Records.{count_of}
-use Rattle.replay.specs.Room.{Making, Desk, opened, Room}
+use Rattle.replay.specs.Room.{Desk, opened, Room}
 use Rattle.replay.specs.Machine.{asking, at_desk, put, moved, shift}
 use Rattle.store.specs.Layout.{symbols_at, depth_at, size_at, slots_at, records_in}
 use Rattle.store.specs.Plain.{ContextAt, record_for}
 use Rattle.store.specs.Meaning.{opening_at, progress_at, desk_at, meaning}
 use Rattle.store.proofs.Standing.{sound_stands}
-use Rattle.store.proofs.Fitting.{making_same, desk_opened, desk_closed}
+use Rattle.store.proofs.Fitting.{desk_opened, desk_closed}
 use Rattle.store.proofs.Local.{desk_stays}
 use Rattle.store.proofs.Passing.{header_long}
 use Rattle.rules.specs.Feed as rule
@@ -44,9 +44,8 @@ module _ (s t : List ℕ) (d : ℕ) (i : Sample) (a : ℕ) (f : FedStore s t d i
       let A = f.limits_same 1 (omega arith) in
       let D = f.limits_same 2 (omega arith) in
       let w = f.limits_same 3 (omega arith) in
-      let v = f.limits_same 4 (omega arith) in
-      let r = f.limits_same 5 (omega arith) in
-      λ j. record { symbols = A j; depth = D j; weight = w j; school = v j; reserve = r j }
+      let r = f.limits_same 4 (omega arith) in
+      λ j. record { symbols = A j; depth = D j; weight = w j; reserve = r j }
 
   abbrev next : Progress
   next = rule.afterFeed (opening_at s d) i a (progress_at s d)
@@ -119,9 +118,9 @@ module _ (s t : List ℕ) (d : ℕ) (i : Sample) (a : ℕ) (f : FedStore s t d i
   -- THEOREM. The meaning after an accepted feed is that before it with the one desk moved as document 01 says
   pub fed_meaning : (k : ℕ) → sample_of k ≡ i → meaning t ≡ shift rules (meaning s) (at_desk d (asking (feed k a)))
   unfolding meaning shift put moved next_of
-  fed_meaning k q = made (making_same s t f.room_same f.allotment_same) (fun_ext each)
+  fed_meaning k q = made f.room_same (fun_ext each)
     where
-      made : {K L : Making} {x y : ℕ → Desk Progress} → K ≡ L → x ≡ y → ◌≡◌ {A = Room Progress} (record { made = K; at = x }) (record { made = L; at = y })
+      made : {K L : ℕ} {x y : ℕ → Desk Progress} → K ≡ L → x ≡ y → ◌≡◌ {A = Room Progress} (record { made = K; at = x }) (record { made = L; at = y })
       made u v = λ j. record { made = u j; at = v j }
 
       each : (e : ℕ) → desk_at t e ≡ cond (eqb e d) (moved rules (desk_at s d) (asking (feed k a))) (desk_at s e)

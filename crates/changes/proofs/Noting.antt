@@ -56,12 +56,12 @@ module _ (m z y a : ℕ) (l : List ℕ) (p : Places z y l) where
   pub noted_past : (k : ℕ) → y + deepest ≤ k → get_or (noted m z y a l) k 0 ≡ get_or l k 0
   noted_past k h =
       sets_past counted y symbols k (omega (arith, symbols_long))
-      ∙ counted_other k (λ e. omega (arith, p.past_allotment, p.in_order)) (λ e. omega (arith, p.in_order))
+      ∙ counted_other k (λ e. omega (arith, p.past_used, p.in_order)) (λ e. omega (arith, p.in_order))
 
   pub noted_used : get_or (noted m z y a l) 1 0 ≡ m
   noted_used =
-      sets_before counted y symbols 1 (omega (arith, p.past_allotment, p.in_order))
-      ∙ get_or-set_other (set l 1 m) z 1 (get_or l z 0 + 1) 0 (λ e. omega (arith, p.past_allotment))
+      sets_before counted y symbols 1 (omega (arith, p.past_used, p.in_order))
+      ∙ get_or-set_other (set l 1 m) z 1 (get_or l z 0 + 1) 0 (λ e. omega (arith, p.past_used))
       ∙ get_or-set_same l 1 m 0 (omega (arith, p.long))
 
   pub noted_size : get_or (noted m z y a l) z 0 ≡ get_or l z 0 + 1
@@ -83,9 +83,9 @@ module _ (m z y a : ℕ) (l : List ℕ) (p : Places z y l) where
       take y u ++ (shifted a (take (y + deepest - y) (drop y u)) ++ drop (y + deepest - y) (drop y u)) ≡ noted m z y a l)
   noted_lent =
       let six : y + deepest - y ≡ deepest = omega arith in
-      let own : get_or (set l 1 m) z 0 ≡ get_or l z 0 = get_or-set_other l 1 z m 0 (λ e. omega (arith, p.past_allotment)) in
+      let own : get_or (set l 1 m) z 0 ≡ get_or l z 0 = get_or-set_other l 1 z m 0 (λ e. omega (arith, p.past_used)) in
       let same : drop y counted ≡ drop y l =
-      drop-set-lt y (set l 1 m) z (get_or l z 0 + 1) p.in_order ∙ drop-set-lt y l 1 m (omega (arith, p.past_allotment, p.in_order)) in
+      drop-set-lt y (set l 1 m) z (get_or l z 0 + 1) p.in_order ∙ drop-set-lt y l 1 m (omega (arith, p.past_used, p.in_order)) in
       let past : y + length symbols ≡ y + deepest = omega (arith, symbols_long) in
       rw (six, own, same)
       (sym (sets-eq symbols counted y (omega (arith, symbols_long, counted_long, p.in_header, p.long))

@@ -24,8 +24,8 @@ recent_number (suc (suc k)) l = absurd (omega arith)
 
 -- the places of a desk's sample
 pub desk_places : (l : List ℕ) (d : ℕ) (i : Sample) → d < desks → header_size ≤ length l → Places (desk_start d + size_field i) (desk_start d + recent_field i) l
-desk_places l d first h g = record { past_allotment = omega arith; in_order = omega arith; in_header = omega arith; long = g }
-desk_places l d second h g = record { past_allotment = omega arith; in_order = omega arith; in_header = omega arith; long = g }
+desk_places l d first h g = record { past_used = omega arith; in_order = omega arith; in_header = omega arith; long = g }
+desk_places l d second h g = record { past_used = omega arith; in_order = omega arith; in_header = omega arith; long = g }
 
 -- where a sample's length and its recent symbols stand among a desk's numbers
 pub record Fields (i : Sample) : Type 0 where

@@ -10,6 +10,7 @@ use borrow.Author.Tests.{eqb-true, eqb-false, eq-eqb, le-ltb}
 use lib.Dec.{T, eqb, ltb}
 use lib.ListN.{length, get_or}
 use Rattle.numbers.specs.Limits.{most_symbols, deepest, desks}
+use Rattle.numbers.specs.Sum.{sum}
 use Rattle.numbers.proofs.Tests.{T?, of_true}
 use Rattle.numbers.proofs.Orders.{Leb, le, gt, leb_view}
 use Rattle.contexts.specs.Keys.{desk_of, context_of}
@@ -20,15 +21,16 @@ use Rattle.contexts.proofs.Digits.{context_of_within}
 use Rattle.records.specs.Records.{key, lookup}
 use Rattle.records.specs.Held.{keep, of_desk}
 use Rattle.records.proofs.Keeping.{lookup_keep}
-use Rattle.replay.specs.Room.{Desk, Room}
+use Rattle.replay.specs.Room.{Desk, Room, reserved, reservations}
 use Rattle.replay.specs.Machine.{put}
-use Rattle.store.specs.Layout.{header_size, desk_start, making_in, field, is_open, size_field, records_in, total_of, desk_numbers}
-use Rattle.store.specs.Sound.{desk_ok, held_by, key_ok, sample_ok, table_ok, parent_key, parent_ok, record_ok, soundb}
+use Rattle.replay.proofs.Desks.{put_sum}
+use Rattle.store.specs.Layout.{header_size, desk_start, room, field, is_open, size_field, records_in, total_of, desk_numbers}
+use Rattle.store.specs.Sound.{desk_ok, held_by, reserved_at, key_ok, sample_ok, table_ok, parent_key, parent_ok, record_ok, soundb}
 use Rattle.store.specs.Meaning.{desk_at, meaning}
 use Rattle.store.proofs.Many.{sample_cong}
 use Rattle.store.proofs.Desks.{desk_stands, stands_desk, desk_shut}
 use Rattle.store.proofs.Passing.{record_key, header_long}
-use Rattle.store.proofs.Fitting.{making_same}
+use Rattle.store.proofs.Fitting.{desk_reserved, reserved_means}
 use Rattle.store.proofs.Local.{SameDesk, same_size, same_slots, desk_stays}
 use Rattle.store.proofs.Declared.{key_stands}
 use Rattle.changes.specs.Changes.{Beside}
@@ -66,18 +68,26 @@ module _ (s t : List ℕ) (d : ℕ) (x : Apart s t d) where
 
   -- the room with desk d as it is now
   abbrev pub with : Desk Progress → Room Progress
-  with v = record { made = making_in s; at = put (desk_at s) d v }
+  with v = record { made = room s; at = put (desk_at s) d v }
 
   pub meaning_with : (v : Desk Progress) → desk_at t d ≡ v → meaning t ≡ with v
   unfolding meaning put
   meaning_with v q =
-      let rooms = making_same s t x.beside.room_same x.beside.allotment_same in
+      let rooms = x.beside.room_same in
       let desks : desk_at t ≡ put (desk_at s) d v = fun_ext (λ e. go e (eqb e d) refl) in
       λ j. record { made = rooms j; at = desks j }
     where
       go : (e : ℕ) (b : Bool) → eqb e d ≡ b → desk_at t e ≡ cond b v (desk_at s e)
       go e true p = ap (desk_at t) (eqb-true e d p) ∙ q
       go e false p = other_meaning e (eqb-false e d p)
+
+  -- the reservations are again within the room, where the new one is
+  pub reserves_with : (v : Desk Progress) → meaning t ≡ with v → d < desks → sum desks (reserved_at s) + reserved v ≤ room s + reserved_at s d → sum desks (reserved_at t) ≤ room t
+  unfolding meaning
+  reserves_with v q l h =
+      let after : reservations (meaning t) ≡ reservations (with v) = ap reservations q in
+      let sums = put_sum reserved desks (desk_at s) d v l in
+      omega (arith, x.beside.room_same, reserved_means s, reserved_means t, desk_reserved s d l)
 
   -- ---- another desk's test
 
@@ -90,10 +100,9 @@ module _ (s t : List ℕ) (d : ℕ) (x : Apart s t d) where
           most = omega (arith, g.most, same 1 (omega arith));
           depth = omega (arith, g.depth, same 2 (omega arith));
           weight = omega (arith, g.weight, same 3 (omega arith));
-          school = omega (arith, g.school, same 4 (omega arith));
-          some = omega (arith, g.some, same 5 (omega arith));
+          some = omega (arith, g.some, same 4 (omega arith));
           sizes = λ i. rw (sym (same_size s t e (same_desk e n l) i)) (g.sizes i);
-          within = omega (arith, g.within, same 5 (omega arith), ap length (x.kept e n));
+          within = omega (arith, g.within, same 4 (omega arith), ap length (x.kept e n));
           slots = λ i. rw (same 1 (omega arith), sym (same_slots s t e (same_desk e n l) l i)) (g.slots i);
         })
     | no q ↦ of_true _ (desk_shut t e (held_by e (records_in t)) q)

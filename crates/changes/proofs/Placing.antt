@@ -16,7 +16,7 @@ use Rattle.changes.specs.FedStore.{FedStore, Acceptable, records_fed}
 use Rattle.changes.specs.Noted.{noted, Places}
 use Rattle.changes.proofs.Filling.{room_enough}
 use Rattle.changes.proofs.Noting.{noted_used, noted_drop}
-use Rattle.changes.proofs.Heading.{Headed, places, done_long, room_stays, allotment_stays, others_stay, limits_stay, sizes_after, slots_after}
+use Rattle.changes.proofs.Heading.{Headed, places, done_long, room_stays, others_stay, limits_stay, sizes_after, slots_after}
 
 -- the store with its records fed has its header
 module _ (s ys : List ℕ) (enough : header_size ≤ length s) (long : length ys ≡ length (drop header_size s)) where
@@ -69,7 +69,6 @@ module _ (s : List ℕ) (d : ℕ) (i : Sample) (a : ℕ) (p : Acceptable s d i a
       let l = p.at_open.desk in
       record {
         room_same = room_stays s counted has_header d l i m a;
-        allotment_same = allotment_stays s counted has_header d l i m a;
         others_same = others_stay s counted has_header d l i m a;
         limits_same = limits_stay s counted has_header d l i m a;
         sizes = sizes_after s counted has_header d l i m a;

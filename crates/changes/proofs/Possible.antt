@@ -6,12 +6,11 @@ use mathlib.Core.List.{List}
 use Prim.Native.Nat.{ℕ, ◌+◌, ◌≤◌, ◌<◌}
 use native.Mathlib.Omega.{arith}
 use native.Mathlib.Decide.{dec_le}
-use borrow.Author.Tests.{leb-true}
-use Rattle.numbers.specs.Limits.{longest, desks, schools}
+use Rattle.numbers.specs.Limits.{longest, desks}
 use Rattle.contexts.specs.Sitting.{sample_of}
-use Rattle.replay.specs.Room.{size, Opening, left_for}
+use Rattle.replay.specs.Room.{Opening, left}
 use Rattle.replay.specs.Table.{Outcome, refused, answered}
-use Rattle.replay.specs.Machine.{opening, asking, closing, Call, at_desk, outside_limits, weight_outside, no_such_school, verdict}
+use Rattle.replay.specs.Machine.{opening, asking, closing, Call, at_desk, outside_limits, weight_outside, verdict}
 use Rattle.store.specs.Layout.{reserve_at, symbols_at, size_at, records_in}
 use Rattle.store.specs.Sound.{soundb, held_by}
 use Rattle.store.specs.Plain.{Open}
@@ -59,21 +58,21 @@ module _ (s : List ℕ) (h : soundb s ≡ true) (d : ℕ) where
     words = λ w. opened_words s h w d o g;
   }
 
-  reserving : (o : Opening) → d < desks → (Open s d → ⊥) → outside_limits o ≡ false → weight_outside o ≡ false → no_such_school o.school ≡ false → Possible s (at_desk d (opening o))
-  reserving o near shut limits weight school =
+  reserving : (o : Opening) → d < desks → (Open s d → ⊥) → outside_limits o ≡ false → weight_outside o ≡ false → Possible s (at_desk d (opening o))
+  reserving o near shut limits weight =
       elim (dec_le 1 o.reserve) [
         | no z ↦ refuses 6 (at_desk d (opening o)) (grant.zero-reserved (meaning s) d o ready (omega arith))
-        | yes some ↦ elim (dec_le o.reserve (size (meaning s).made)) [
+        | yes some ↦ elim (dec_le o.reserve (meaning s).made) [
           | no far ↦ refuses 6 (at_desk d (opening o)) (grant.above-room (meaning s) d o ready some (omega arith))
-          | yes in_room ↦ elim (dec_le o.reserve (left_for (meaning s) o.school)) [
-            | no far ↦ refuses 23 (at_desk d (opening o)) (grant.above-own (meaning s) d o ready some in_room (omega arith))
+          | yes in_room ↦ elim (dec_le o.reserve (left (meaning s))) [
+            | no far ↦ refuses 7 (at_desk d (opening o)) (grant.above-left (meaning s) d o ready some in_room (omega arith))
             | yes fits ↦ granted o shut (record { ready = ready; some = some; in_room = in_room; fits = fits })
           ]
         ]
       ]
     where
       ready : grant.Ready (meaning s) d o
-      ready = ready_there s d o (record { sound = h; desk = near; shut = shut; limits = limits; weight = weight; school = school })
+      ready = ready_there s d o (record { sound = h; desk = near; shut = shut; limits = limits; weight = weight })
 
   pub opening_possible : (o : Opening) → Possible s (at_desk d (opening o))
   opening_possible o = elim (dec_le desks d) [
@@ -84,13 +83,9 @@ module _ (s : List ℕ) (h : soundb s ≡ true) (d : ℕ) where
     ]
   ]
     where
-      schooled : d < desks → (Open s d → ⊥) → outside_limits o ≡ false → weight_outside o ≡ false → (b : Bool) → no_such_school o.school ≡ b → Possible s (at_desk d (opening o))
-      schooled near shut within light true e = refuses 22 (at_desk d (opening o)) (grant.no-school (meaning s) d o near (shut_there s d shut) within light (leb-true schools o.school e))
-      schooled near shut within light false e = reserving o near shut within light e
-
       weighed : d < desks → (Open s d → ⊥) → outside_limits o ≡ false → (b : Bool) → weight_outside o ≡ b → Possible s (at_desk d (opening o))
       weighed near shut within true e = refuses 20 (at_desk d (opening o)) (grant.heavy (meaning s) d o near (shut_there s d shut) within e)
-      weighed near shut within false e = schooled near shut within e (no_such_school o.school) refl
+      weighed near shut within false e = reserving o near shut within e
 
       go : d < desks → (Open s d → ⊥) → (b : Bool) → outside_limits o ≡ b → Possible s (at_desk d (opening o))
       go near shut true e = refuses 5 (at_desk d (opening o)) (grant.outside (meaning s) d o near (shut_there s d shut) e)

@@ -96,7 +96,6 @@ module _ (s : List ℕ) (d : ℕ) (h : soundb s ≡ true) (l : d < desks) where
     marked_closed = record {
       beside = record {
         room_same = unwritten 0 (omega arith) (λ q. omega arith) (λ q. omega arith);
-        allotment_same = unwritten 2 (omega arith) (λ q. omega arith) (λ q. omega arith);
         others = λ e f n k i. unwritten (desk_start e + f) (omega arith) (λ q. omega arith) (λ q. n (omega arith));
         past = past_now;
         long = marked_long;

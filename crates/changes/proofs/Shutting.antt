@@ -1,7 +1,7 @@
 -- A closing: what its table says, and that a store whose desk was closed is sound and means what the machine says. Assumes nothing.
 use Prim.Native.Nat.{ℕ, ◌≤◌, ◌<◌}
 use native.Mathlib.Omega.{arith}
-use mathlib.Core.Path.{◌≡◌, refl, sym, ap, subst, ◌∙◌}
+use mathlib.Core.Path.{◌≡◌, sym, ap, subst, ◌∙◌}
 use mathlib.Core.Logic.{◌≢◌}
 use mathlib.Core.Bool.{Bool, true, not, ◌&&◌}
 use mathlib.Core.List.{List, []}
@@ -18,10 +18,9 @@ use Rattle.records.specs.Records.{key, keys, rises}
 use Rattle.records.specs.Held.{keep, of_desk}
 use Rattle.recording.proofs.Desks.{rising_without, length_without, other_without}
 use Rattle.records.proofs.Keeping.{keep_all}
-use Rattle.replay.specs.Room.{closed, Allotted}
+use Rattle.replay.specs.Room.{closed, reserved}
 use Rattle.replay.specs.Table.{refused, answered, verdict_of}
 use Rattle.replay.specs.Machine.{closing, at_desk, closing_table, table_at, table_of, answer_at, answer_of, verdict, moved, shift}
-use Rattle.replay.proofs.Allotments.{allotted_other}
 use Rattle.store.specs.Layout.{used, is_open, records_in}
 use Rattle.store.specs.Sound.{desk_ok, held_by, record_ok, soundb}
 use Rattle.store.specs.Plain.{Open}
@@ -29,12 +28,12 @@ use Rattle.store.specs.Meaning.{meaning}
 use Rattle.store.proofs.Parts.{records_length}
 use Rattle.store.proofs.Desks.{desk_shut}
 use Rattle.store.proofs.Passing.{passed, passes}
-use Rattle.store.proofs.Fitting.{desk_opened, desk_closed, meaning_allotted, allotted_reserves}
+use Rattle.store.proofs.Fitting.{desk_opened, desk_closed}
 use Rattle.rules.specs.Rules.{done, rules}
 use Rattle.calls.specs.Promises.{Moves}
 use Rattle.calls.proofs.Keeping.{moves_refused, moves_done}
 use Rattle.changes.specs.Changes.{Closed}
-use Rattle.changes.proofs.Others.{Apart, with, meaning_with, other_desk, other_record}
+use Rattle.changes.proofs.Others.{Apart, with, meaning_with, reserves_with, other_desk, other_record}
 
 -- ---- the table
 
@@ -89,26 +88,23 @@ module _ (s t : List ℕ) (d : ℕ) (h : soundb s ≡ true) (o : Open s d) (x : 
       stays : e ≢ d → T (desk_ok t (records_in t) e)
       stays n = other_desk s t d apart e n l (every_at desks (desk_ok s (records_in s)) (passed s h).each_desk e l)
 
-  moved_closed : meaning t ≡ shift rules (meaning s) (at_desk d closing)
-  unfolding shift meaning moved
-  moved_closed = meaning_closed ∙ rw (desk_opened s d o)
-
-  -- a closing reserves nothing
-  allotted_closed : Allotted (meaning t)
-  allotted_closed = subst Allotted (sym moved_closed) (allotted_other rules (meaning s) d closing refl (meaning_allotted s h))
-
   sound_closed : soundb t ≡ true
+  unfolding reserved
   sound_closed =
       let p = passed s h in
       let f = p.framed in
       let rooms = x.beside.room_same in
       passes t (record {
-        framed = record { some = omega (arith, f.some); most = omega (arith, f.most); long = omega (arith, f.long, x.beside.long); few = omega (arith, f.few, used_less); allotments = omega (arith, f.allotments, x.beside.allotment_same) };
+        framed = record { some = omega (arith, f.some); most = omega (arith, f.most); long = omega (arith, f.long, x.beside.long); few = omega (arith, f.few, used_less) };
         up = subst (λ (rs : List (List ℕ)). T (rises 0 (keys rs))) (sym x.records_left) (rising_without d (records_in s) p.up);
         each = each_record;
         each_desk = every_of desks (desk_ok t (records_in t)) each_desk;
-        reserves = allotted_reserves t allotted_closed;
+        reserves = reserves_with s t d apart closed meaning_closed o.desk (omega (arith, p.reserves));
       })
+
+  moved_closed : meaning t ≡ shift rules (meaning s) (at_desk d closing)
+  unfolding shift meaning moved
+  moved_closed = meaning_closed ∙ rw (desk_opened s d o)
 
   -- THEOREM. A store whose open desk d was closed keeps the promise of a closing
   pub closed_moves : Moves s (at_desk d closing) (answered done) t

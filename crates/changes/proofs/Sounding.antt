@@ -10,7 +10,7 @@ use lib.ListN.{length}
 use Rattle.numbers.specs.Sum.{one}
 use Rattle.numbers.proofs.Orders.{less, same, more, order}
 use Rattle.contexts.specs.Context.{begins}
-use Rattle.contexts.specs.Sitting.{Sample, first, second, sample_of, same_sample}
+use Rattle.contexts.specs.Sitting.{Sample, first, second, same_sample}
 use Rattle.contexts.proofs.Strings.{begins→take}
 use Rattle.contexts.proofs.KeyOrder.{Within}
 use Rattle.contexts.proofs.Followed.{context_take}
@@ -18,24 +18,17 @@ use Rattle.records.specs.Records.{key, lookup, count_of}
 use Rattle.records.specs.Held.{held}
 use Rattle.records.proofs.Finding.{place_held, lookup_place}
 use Rattle.records.proofs.Rising.{rises_apart}
-use Rattle.replay.specs.Room.{Allotted}
-use Rattle.replay.specs.Machine.{asking}
-use Rattle.replay.proofs.Allotments.{allotted_other}
 use Rattle.store.specs.Layout.{used, symbols_at, size_at, records_in, total_of}
 use Rattle.store.specs.Sound.{soundb}
 use Rattle.store.specs.Plain.{Open, ContextAt, Counts, record_for, total_at, nth_record, Sound}
-use Rattle.store.specs.Meaning.{meaning}
 use Rattle.store.proofs.Parts.{records_length}
 use Rattle.store.proofs.Standing.{sound_stands}
 use Rattle.store.proofs.Converse.{stands_sound}
-use Rattle.store.proofs.Fitting.{meaning_allotted, allotted_reserves}
-use Rattle.rules.specs.Rules.{feed, rules}
 use Rattle.changes.specs.FedStore.{FedStore, Acceptable, recent_at, is_counted}
 use Rattle.changes.proofs.Recent.{within}
 use Rattle.changes.proofs.Counted.{counted_trans, one_part, either}
-use Rattle.changes.proofs.Header.{same?, limit_same, size_after_lem, open_before, open_after, context_same, size_within, slots_below}
+use Rattle.changes.proofs.Header.{same?, limit_same, size_after_lem, open_before, open_after, context_same, reservations_same, size_within, slots_below}
 use Rattle.changes.proofs.Tallied.{rising_after, count_after, total_after, owned_after, seen_after_lem, held_after, few_after}
-use Rattle.changes.proofs.Moving.{fed_meaning}
 
 module _ (s t : List ℕ) (d : ℕ) (i : Sample) (a : ℕ) (f : FedStore s t d i a) (p : Acceptable s d i a) where
   stands : Sound s
@@ -123,16 +116,6 @@ module _ (s t : List ℕ) (d : ℕ) (i : Sample) (a : ℕ) (f : FedStore s t d i
     | more n ↦ absurd (let g = in_order_after k j n l in omega arith)
   ]
 
-  -- "A school's openings are held to its own allotment": a feed reserves nothing
-  allotted_after : Allotted (meaning t)
-  allotted_after =
-      let k = number i in
-      subst Allotted (sym (fed_meaning s t d i a f p k.0 k.1)) (allotted_other rules (meaning s) d (asking (feed k.0 a)) refl (meaning_allotted s p.sound))
-    where
-      number : (i : Sample) → (k : ℕ) × (sample_of k ≡ i)
-      number first = (0, refl)
-      number second = (1, refl)
-
   -- THEOREM. What an accepted feed leaves passes the soundness test
   pub fed_sound : soundb t ≡ true
   fed_sound =
@@ -147,15 +130,13 @@ module _ (s t : List ℕ) (d : ℕ) (i : Sample) (a : ℕ) (f : FedStore s t d i
         weight = λ e o. rw (limit e 3 o.desk (omega arith)) (stands.weight e (before e o));
         lengths = λ e o. size_within s t d i a f p e (before e o);
         symbols = λ e o. slots_below s t d i a f p e (before e o);
-        allotments = omega (arith, f.room_same, f.allotment_same, stands.allotments);
-        school = λ e o. rw (limit e 4 o.desk (omega arith)) (stands.school e (before e o));
-        reservations = allotted_reserves t allotted_after;
-        reserved_held = λ e o. rw (limit e 5 o.desk (omega arith)) (held_after s t d i a f p e (before e o));
+        reservations = omega (arith, reservations_same s t d i a f, f.room_same, stands.reservations);
+        reserved_held = λ e o. rw (limit e 4 o.desk (omega arith)) (held_after s t d i a f p e (before e o));
         held_once = once_after;
         counts_below = below_after;
         totals = totals_after;
         suffixes = suffixes_after;
-        reserve_some = λ e o. rw (limit e 5 o.desk (omega arith)) (stands.reserve_some e (before e o));
+        reserve_some = λ e o. rw (limit e 4 o.desk (omega arith)) (stands.reserve_some e (before e o));
         few = omega (arith, f.room_same, few_after s t d i a f p);
         each_counts = counts_after;
         in_order = in_order_after;

@@ -18,7 +18,6 @@ use Rattle.replay.specs.Room.{Opening}
 use Rattle.store.specs.Layout.{header_size, desk_start, opening_numbers, desk_numbers, size_field, recent_field, used, records_in}
 use Rattle.store.specs.Sound.{soundb}
 use Rattle.store.specs.Meaning.{meaning}
-use Rattle.store.proofs.Fitting.{room_made_lem}
 use Rattle.store.proofs.Parts.{records_length}
 use Rattle.store.proofs.Standing.{sound_stands}
 use Rattle.store.proofs.Passing.{passed, header_long}
@@ -31,7 +30,8 @@ use Rattle.changes.proofs.Recent.{recent_within}
 use Rattle.changes.proofs.Filling.{room_enough}
 use Rattle.changes.proofs.Numbering.{fields_of}
 use Rattle.changes.proofs.Placing.{headed}
-use Rattle.changes.proofs.Granting.{Granted, limited, light, one_of_two}
+use Rattle.changes.proofs.Granting.{Granted, limited, light}
+use Rattle.changes.proofs.Vacant.{room_made_lem}
 use Rattle.changes.proofs.Laying.{laid}
 use Rattle.changes.proofs.Flat.{flat, in_front, front_long}
 use Rattle.changes.proofs.Words.{words_append, words_take, words_drop, words_set, words_sets, words_zeros, AllWords, words_flat, words_parts, words_keep}
@@ -49,13 +49,13 @@ module _ (s : List ℕ) (h : soundb s ≡ true) (w : Words s) where
 
   -- ---- an opening
 
-  fresh_words : (o : Opening) → o.symbols < 2 ^ 32 → o.depth < 2 ^ 32 → o.weight < 2 ^ 32 → o.school < 2 ^ 32 → o.reserve < 2 ^ 32 → Words (fresh_desk o)
-  fresh_words o p q w v r = (lit< tt, (p, (q, (w, (v, (r, words_zeros (desk_numbers - opening_numbers)))))))
+  fresh_words : (o : Opening) → o.symbols < 2 ^ 32 → o.depth < 2 ^ 32 → o.weight < 2 ^ 32 → o.reserve < 2 ^ 32 → Words (fresh_desk o)
+  fresh_words o p q w r = (lit< tt, (p, (q, (w, (r, words_zeros (desk_numbers - opening_numbers))))))
 
   pub opened_words : (d : ℕ) (o : Opening) → Granted (meaning s) d o → Words (laid s d (fresh_desk o))
   opened_words d o g =
       let l = limited o g.ready.limits in
-      let small = fresh_words o (omega (arith, l.most)) (omega (arith, l.deep)) (omega (arith, light o g.ready.weight)) (omega (arith, one_of_two o g.ready.school)) (omega (arith, g.in_room, room_made_lem s h, (passed s h).framed.most)) in
+      let small = fresh_words o (omega (arith, l.most)) (omega (arith, l.deep)) (omega (arith, light o g.ready.weight)) (omega (arith, g.in_room, room_made_lem s, (passed s h).framed.most)) in
       let rest = drop (desk_start d + desk_numbers - desk_start d) (drop (desk_start d) s) in
       words_append (take (desk_start d) s) (fresh_desk o ++ rest) (words_take (desk_start d) s w)
       (words_append (fresh_desk o) rest small (words_drop (desk_start d + desk_numbers - desk_start d) (drop (desk_start d) s) (words_drop (desk_start d) s w)))

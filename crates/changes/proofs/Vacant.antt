@@ -1,4 +1,4 @@
--- What a store's numbers tell of a desk that is not open: no record is its. Assumes nothing.
+-- What a store's numbers tell of its room and of a desk that is not open: no record is its. Assumes nothing.
 use Prim.Native.Nat.{ℕ, ◌<◌}
 use native.Mathlib.Omega.{arith}
 use mathlib.Core.Path.{◌≡◌, refl, subst}
@@ -17,16 +17,20 @@ use Rattle.records.proofs.Keeping.{keep_all}
 use Rattle.replay.specs.Room.{Opening, closed}
 use Rattle.replay.specs.Table.{refused}
 use Rattle.replay.specs.Machine.{opening, at_desk, verdict}
-use Rattle.store.specs.Layout.{is_open, records_in}
+use Rattle.store.specs.Layout.{room, is_open, records_in}
 use Rattle.store.specs.Sound.{record_ok, soundb}
 use Rattle.store.specs.Plain.{Open}
 use Rattle.store.specs.Meaning.{opening_at, progress_at, meaning}
 use Rattle.store.proofs.Passing.{passed, record_key}
-use Rattle.store.proofs.Fitting.{desk_opened, desk_closed, meaning_allotted}
+use Rattle.store.proofs.Fitting.{desk_opened, desk_closed}
 use Rattle.store.proofs.Declared.{key_stands}
 use Rattle.rules.specs.Rules.{rules}
 use Rattle.changes.specs.Changes.{Openable}
 use Rattle.changes.proofs.Granting.{Ready, already_open}
+
+pub room_made_lem : (s : List ℕ) → (meaning s).made ≡ room s
+unfolding meaning
+room_made_lem s = refl
 
 pub shut_there : (s : List ℕ) (d : ℕ) → (Open s d → ⊥) → (meaning s).at d ≡ closed
 unfolding meaning
@@ -37,7 +41,7 @@ unfolding meaning
 open_there s d o p = already_open (meaning s) d o p.desk (opening_at s d) (progress_at s d) (desk_opened s d p)
 
 pub ready_there : (s : List ℕ) (d : ℕ) (o : Opening) → Openable s d o → Ready (meaning s) d o
-ready_there s d o p = record { allotted = meaning_allotted s p.sound; desk = p.desk; shut = shut_there s d p.shut; limits = p.limits; weight = p.weight; school = p.school }
+ready_there s d o p = record { desk = p.desk; shut = shut_there s d p.shut; limits = p.limits; weight = p.weight }
 
 -- no record is of a desk that is not open
 module _ (s : List ℕ) (d : ℕ) (h : soundb s ≡ true) (n : Open s d → ⊥) where

@@ -4,33 +4,31 @@ use Rattle.numbers.specs.Limits.{deepest, desks}
 use Rattle.contexts.specs.Sitting.{Sample}
 use Rattle.records.specs.Held.{without}
 use Rattle.replay.specs.Room.{Opening}
-use Rattle.replay.specs.Machine.{outside_limits, weight_outside, no_such_school}
-use Rattle.store.specs.Layout.{store_size, opening_numbers, desk_numbers, room, used, first_allotment, field, size_at, slots_at, records_in}
+use Rattle.replay.specs.Machine.{outside_limits, weight_outside}
+use Rattle.store.specs.Layout.{store_size, opening_numbers, desk_numbers, room, used, field, size_at, slots_at, records_in}
 use Rattle.store.specs.Plain.{Open}
 use Rattle.store.specs.Sound.{soundb}
 use Rattle.store.specs.Meaning.{opening_at}
 
 -- the numbers that an opening names, behind the mark of an open desk
 abbrev pub named_numbers : Opening → List ℕ
-named_numbers o = 1 ∷ o.symbols ∷ o.depth ∷ o.weight ∷ o.school ∷ o.reserve ∷ []
+named_numbers o = 1 ∷ o.symbols ∷ o.depth ∷ o.weight ∷ o.reserve ∷ []
 
 -- the numbers of a desk that opens: "both samples empty"
 abbrev pub fresh_desk : Opening → List ℕ
 fresh_desk o = named_numbers o ++ replicate (desk_numbers - opening_numbers) 0
 
--- what the judging of a reservation asks: a sound store, one of the eight desks, which is not open, A, D and the weight within their limits, and a school
+-- what the judging of a reservation asks: a sound store, one of the eight desks, which is not open, and A, D and the weight within their limits
 pub record Openable (s : List ℕ) (d : ℕ) (o : Opening) : Type 0 where
   pub sound : soundb s ≡ true
   pub desk : d < desks
   pub shut : Open s d → ⊥
   pub limits : outside_limits o ≡ false
   pub weight : weight_outside o ≡ false
-  pub school : no_such_school o.school ≡ false
 
--- t is s but for desk d and the records: the room and its allotments, the other desks' numbers, all that lies past the store's size, the length
+-- t is s but for desk d and the records: the room, the other desks' numbers, all that lies past the store's size, the length
 pub record Beside (s t : List ℕ) (d : ℕ) : Type 0 where
   pub room_same : room t ≡ room s
-  pub allotment_same : first_allotment t ≡ first_allotment s
   pub others : (e f : ℕ) → e ≢ d → e < desks → f < desk_numbers → field t e f ≡ field s e f
   pub past : drop (store_size (room s)) t ≡ drop (store_size (room s)) s
   pub long : length t ≡ length s

@@ -4,7 +4,7 @@ use Rattle.numbers.specs.Limits.{longest, desks}
 use Rattle.numbers.specs.Sum.{one}
 use Rattle.contexts.specs.Sitting.{Sample, sample_of, same_sample}
 use Rattle.records.specs.Fed.{fed_to, missing_to}
-use Rattle.store.specs.Layout.{store_size, room, first_allotment, field, symbols_at, depth_at, reserve_at, size_at, slots_at, records_in, opening_numbers, desk_numbers}
+use Rattle.store.specs.Layout.{store_size, room, field, symbols_at, depth_at, reserve_at, size_at, slots_at, records_in, opening_numbers, desk_numbers}
 use Rattle.store.specs.Sound.{soundb, held_by}
 use Rattle.store.specs.Plain.{Open}
 use Rattle.store.specs.Meaning.{opening_at}
@@ -57,7 +57,6 @@ shifted a slots = a ∷ take 5 slots
 -- symbol a was fed to sample i of desk d: s are the numbers before, t those after
 pub record FedStore (s t : List ℕ) (d : ℕ) (i : Sample) (a : ℕ) : Type 0 where
   pub room_same : room t ≡ room s
-  pub allotment_same : first_allotment t ≡ first_allotment s
   -- the other desks' numbers, and those that the opening of this one named
   pub others_same : (e f : ℕ) → e < desks → e ≢ d → f < desk_numbers → field t e f ≡ field s e f
   pub limits_same : (f : ℕ) → f < opening_numbers → field t d f ≡ field s d f

@@ -11,7 +11,7 @@ noted m z y a l = sets (set (set l 1 m) z (get_or l z 0 + 1)) y (shifted a (take
 
 -- the two places are in the header, in this order
 pub record Places (z y : ℕ) (l : List ℕ) : Type 0 where
-  pub past_allotment : 2 < z
+  pub past_used : 1 < z
   pub in_order : z < y
   pub in_header : y + deepest ≤ header_size
   pub long : header_size ≤ length l

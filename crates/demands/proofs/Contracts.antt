@@ -65,7 +65,7 @@ stays σ τ (at_desk d (asking (feed i a))) o s m = m.stays_sound s
 stays σ τ (at_desk d (asking (reporting sheet place))) o s m = stays_sound σ τ m.only_read s
 stays σ τ (at_desk d (asking (charting len code a))) o s m = stays_sound σ τ m.only_read s
 stays σ τ (at_desk d closing) o s m = m.stays_sound s
-stays σ τ (room_question w) o s m = stays_sound σ τ m.only_read s
+stays σ τ room_question o s m = stays_sound σ τ m.only_read s
 
 pub answers : (σ τ : List ℕ) (c : Call rules) (o : Outcome Answer) → Sound σ → Does σ c o τ → o ≡ verdict rules (meaning σ) c
 answers σ τ (at_desk d (opening p)) o s m = m.answers s
@@ -74,7 +74,7 @@ answers σ τ (at_desk d (asking (reporting sheet place))) o s m =
     m.reports.asks.answers s ∙ ap (λ (n : ℕ). verdict rules (meaning σ) (at_desk d (asking (reporting n place)))) m.named
 answers σ τ (at_desk d (asking (charting len code a))) o s m = m.asks.answers s
 answers σ τ (at_desk d closing) o s m = m.answers s
-answers σ τ (room_question w) o s m = m.asks.answers s
+answers σ τ room_question o s m = m.asks.answers s
 
 pub leaves : (σ τ : List ℕ) (c : Call rules) (o : Outcome Answer) → Sound σ → Does σ c o τ → meaning τ ≡ move rules (meaning σ) c
 leaves σ τ (at_desk d (opening p)) o s m = m.moves s
@@ -82,7 +82,7 @@ leaves σ τ (at_desk d (asking (feed i a))) o s m = m.moves s
 leaves σ τ (at_desk d (asking (reporting sheet place))) o s m = ap meaning m.only_read ∙ sym (report_stays (meaning σ) d sheet place)
 leaves σ τ (at_desk d (asking (charting len code a))) o s m = ap meaning m.only_read ∙ sym (chart_stays (meaning σ) d len code a)
 leaves σ τ (at_desk d closing) o s m = m.moves s
-leaves σ τ (room_question w) o s m = ap meaning m.only_read ∙ sym (question_stays rules (meaning σ) w)
+leaves σ τ room_question o s m = ap meaning m.only_read ∙ sym (question_stays rules (meaning σ))
 
 abbrev pub contracts : Contracts rules (List ℕ)
 contracts = record { Sound = Sound; meaning = meaning; Does = Does; stays = stays; answers = answers; leaves = leaves }

@@ -11,9 +11,9 @@ use Rattle.writing.specs.Writing.{file_of, writing_lines, WritesFile}
 use Rattle.salvage.specs.Salvage.{Saved, salvage_lines, Salvages}
 use Rattle.salvage.proofs.Refusing.{by_lines, as_the_reader}
 use Rattle.sitting_file.specs.Format.{header_of}
-use Rattle.store.specs.Making.{room_outside, allotments_off, store_short, made_of, Makes}
+use Rattle.store.specs.Making.{room_outside, store_short, made_of, Makes}
 use Rattle.store.specs.declared.Made.{Made}
-use Rattle.store.specs.declared.Made.TheVariants.{Done, RoomOutside, AllotmentsOff, StoreShort}
+use Rattle.store.specs.declared.Made.TheVariants.{Done, RoomOutside, StoreShort}
 use Rattle.store.specs.Sound.{soundb}
 use Rattle.store.specs.Meaning.{meaning}
 use Rattle.rules.specs.Rules.{Answer, done, feed, reporting, charting, rules}
@@ -23,13 +23,13 @@ use Rattle.demands.specs.Demands.{table_on, Demand1, Demand1Sheet, making_table,
 use Rattle.demands.proofs.Contracts.{answers}
 
 -- refused 1 where the numbers do not pass the test
-pub unsound : (σ τ : List ℕ) (c : Call rules) (o : Outcome Answer) → soundb σ ≡ false → Does σ c o τ → o ≡ refused 1
+unsound : (σ τ : List ℕ) (c : Call rules) (o : Outcome Answer) → soundb σ ≡ false → Does σ c o τ → o ≡ refused 1
 unsound σ τ (at_desk d (opening p)) o f m = m.unsound f
 unsound σ τ (at_desk d (asking (feed i a))) o f m = m.unsound f
 unsound σ τ (at_desk d (asking (reporting sheet place))) o f m = m.reports.asks.unsound f
 unsound σ τ (at_desk d (asking (charting len code a))) o f m = m.asks.unsound f
 unsound σ τ (at_desk d closing) o f m = m.unsound f
-unsound σ τ (room_question w) o f m = m.asks.unsound f
+unsound σ τ room_question o f m = m.asks.unsound f
 
 stays : (σ τ : List ℕ) (c : Call rules) (o : Outcome Answer) (n : ℕ) → o ≡ refused n → Does σ c o τ → τ ≡ σ
 stays σ τ (at_desk d (opening p)) o n e m = m.refused_stays n e
@@ -37,7 +37,7 @@ stays σ τ (at_desk d (asking (feed i a))) o n e m = m.refused_stays n e
 stays σ τ (at_desk d (asking (reporting sheet place))) o n e m = m.only_read
 stays σ τ (at_desk d (asking (charting len code a))) o n e m = m.only_read
 stays σ τ (at_desk d closing) o n e m = m.refused_stays n e
-stays σ τ (room_question w) o n e m = m.only_read
+stays σ τ room_question o n e m = m.only_read
 
 -- the answer is what the whole table says
 by_table : (σ τ : List ℕ) (c : Call rules) (o : Outcome Answer) → Does σ c o τ → o ≡ verdict_of (table_on σ c) (answer_of rules (meaning σ) c)
@@ -62,23 +62,21 @@ pub demand_1_sheet : Demand1Sheet
 demand_1_sheet σ τ d sheet place n o lent e = lent.reports.refused_stays n e
 
 -- a making's answer is what its table says
-making_by_table : (K first second n : ℕ) → making_of (made_of K first second n) ≡ verdict_of (making_table K first second n) done
+making_by_table : (K n : ℕ) → making_of (made_of K n) ≡ verdict_of (making_table K n) done
 unfolding verdict_of
-making_by_table K first second n = go (room_outside K) (allotments_off K first second) (store_short K n)
+making_by_table K n = go (room_outside K) (store_short K n)
   where
-    go : (t u v : Bool) → making_of (cond t RoomOutside (cond u AllotmentsOff (cond v StoreShort Done))) ≡ cond t (refused 17) (cond u (refused 21) (cond v (refused 18) (answered done)))
-    go true u v = refl
-    go false true v = refl
-    go false false true = refl
-    go false false false = refl
+    go : (t u : Bool) → making_of (cond t RoomOutside (cond u StoreShort Done)) ≡ cond t (refused 17) (cond u (refused 18) (answered done))
+    go true u = refl
+    go false true = refl
+    go false false = refl
 
-pub demand_1_making : (K first second : ℕ) (σ τ : List ℕ) (m : Made) → Makes K first second σ m τ → Demand1Making K first second σ m τ
-demand_1_making K first second σ τ m makes =
-    let table = making_table K first second (length σ) in
-    let e : making_of m ≡ verdict_of table done = ap making_of makes.answered ∙ making_by_table K first second (length σ) in
+pub demand_1_making : (K : ℕ) (σ τ : List ℕ) (m : Made) → Makes K σ m τ → Demand1Making K σ m τ
+demand_1_making K σ τ m makes =
+    let e : making_of m ≡ verdict_of (making_table K (length σ)) done = ap making_of makes.answered ∙ making_by_table K (length σ) in
     record {
-      refused_exactly = λ n. rw e (refused_exactly table done n);
-      made_exactly = rw e (answered_exactly table done);
+      refused_exactly = λ n. rw e (refused_exactly (making_table K (length σ)) done n);
+      made_exactly = rw e (answered_exactly (making_table K (length σ)) done);
       in_order = refl;
       refused_stays = λ n r. makes.refused_kept (λ f. no_refusal (ap making_of f) r);
     }

@@ -28,11 +28,11 @@ use Rattle.demands.proofs.Exchange.{estimates_by}
 -- the opening that a course began with
 opened_by : Act rules → Opening
 opened_by (opening o) = o
-opened_by (asking q) = naming 0 0 0 0 0
-opened_by closing = naming 0 0 0 0 0
+opened_by (asking q) = naming 0 0 0 0
+opened_by closing = naming 0 0 0 0
 
 begun_with : List (Told rules) → Opening
-begun_with [] = naming 0 0 0 0 0
+begun_with [] = naming 0 0 0 0
 begun_with (t ∷ ts) = opened_by t.act
 
 module _ {gs : List (Course rules)} {d : ℕ} (a b : ItsStrings gs d) where

@@ -48,7 +48,7 @@ struck_then d a x (then {c = c} {cs = cs} {o = o} {os = os} e r) = go c o (struc
 
     go : (c : Call rules) (o : Outcome Answer) → struck rules (cs ++ at_desk d a ∷ []) (os ++ answered x ∷ []) ≡ struck rules cs os ++ last
         → struck rules (c ∷ (cs ++ at_desk d a ∷ [])) (o ∷ (os ++ answered x ∷ [])) ≡ struck rules (c ∷ cs) (o ∷ os) ++ last
-    go (room_question w) o h = h
+    go room_question o h = h
     go (at_desk e b) (refused n) h = h
     go (at_desk e b) (answered y) h = ap (λ (xs : List (Done rules)). record { desk = e; act = b; answer = y } ∷ xs) h
 

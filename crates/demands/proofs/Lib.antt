@@ -15,7 +15,6 @@ pub mod Possible
 pub mod Replays
 pub mod Short
 pub mod Weight
-pub mod Schools
 pub mod Exchange
 pub mod ExchangedRuns
 pub mod ExchangedHolding

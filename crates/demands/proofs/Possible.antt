@@ -39,7 +39,7 @@ each_can σ (at_desk d (asking (feed k a))) = let m = possible σ (at_desk d (as
 each_can σ (at_desk d (asking (reporting sheet place))) = can_report σ d sheet place
 each_can σ (at_desk d (asking (charting len code a))) = only_asked σ (at_desk d (asking (charting len code a))) (λ o m. record { outcome = o; after = σ; does = m; words = λ w. w })
 each_can σ (at_desk d closing) = let m = possible σ (at_desk d closing) (λ e. move.closing-possible σ e d) in record { outcome = m.outcome; after = m.after; does = m.moves; words = m.words }
-each_can σ (room_question w) = only_asked σ (room_question w) (λ o m. record { outcome = o; after = σ; does = m; words = λ w. w })
+each_can σ room_question = only_asked σ room_question (λ o m. record { outcome = o; after = σ; does = m; words = λ w. w })
 
 -- .. and so can calls one after the other
 pub can_run : (σ : List ℕ) (cs : List (Call rules)) → CanRun σ cs

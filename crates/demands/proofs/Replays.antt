@@ -5,7 +5,6 @@ use native.Mathlib.Nat.{le_of_eq}
 use mathlib.Core.Path.{◌≡◌, refl, sym, subst}
 use mathlib.Core.List.{List, [], ◌∷◌, ◌++◌, Memᴰ}
 use lib.ListN.{drop, set, replicate, length-replicate}
-use Rattle.replay.specs.Room.{size}
 use Rattle.replay.specs.Table.{Outcome, refused}
 use Rattle.replay.specs.Serial.{Done, calls, answers, struck, serial}
 use Rattle.store.specs.Layout.{header_size, store_size}
@@ -35,14 +34,13 @@ demand_3_runs K σ τ σ' cs os made run made' =
       replayed = is;
     }
 
--- every room within the limits has a new store, however it is allotted
+-- every room within the limits has a new store
 pub each_room : EachRoom
 each_room K low high =
-    let lent : List ℕ = replicate (store_size (size K)) 0 in
-    let zeros : List ℕ = replicate header_size 0 ++ drop header_size lent in
+    let lent : List ℕ = replicate (store_size K) 0 in
     record {
-      store = set (set zeros 0 (size K)) 2 K.first;
-      made = record { lent = lent; makes = making_done (size K) K.first K.second lent _ low high refl (le_of_eq (sym (length-replicate (store_size (size K)) 0))) refl };
-      words = words_set (set zeros 0 (size K)) 2 K.first (omega arith) (words_set zeros 0 (size K) (omega arith)
-          (words_append (replicate header_size 0) (drop header_size lent) (words_zeros header_size) (words_drop header_size lent (words_zeros (store_size (size K))))));
+      store = set (replicate header_size 0 ++ drop header_size lent) 0 K;
+      made = record { lent = lent; makes = making_done K lent _ low high (le_of_eq (sym (length-replicate (store_size K) 0))) refl };
+      words = words_set (replicate header_size 0 ++ drop header_size lent) 0 K (omega arith)
+          (words_append (replicate header_size 0) (drop header_size lent) (words_zeros header_size) (words_drop header_size lent (words_zeros (store_size K))));
     }

@@ -17,9 +17,9 @@ use Rattle.replay.specs.Alone.{latest, asks}
 use Rattle.writing.specs.Writing.{file_of, writing_lines}
 use Rattle.salvage.specs.Salvage.{Saved, salvage_lines}
 use Rattle.salvage.specs.Saving.{RefusedAsRead}
-use Rattle.store.specs.Making.{room_outside, allotments_off, store_short}
+use Rattle.store.specs.Making.{room_outside, store_short}
 use Rattle.store.specs.declared.Made.{Made}
-use Rattle.store.specs.declared.Made.TheVariants.{Done, RoomOutside, AllotmentsOff, StoreShort}
+use Rattle.store.specs.declared.Made.TheVariants.{Done, RoomOutside, StoreShort}
 use Rattle.store.specs.Sound.{soundb}
 use Rattle.store.specs.Meaning.{meaning}
 use Rattle.rules.specs.Feed.{counted_from}
@@ -52,26 +52,21 @@ pub record Demand1 (σ : List ℕ) (c : Call rules) (o : Outcome Answer) (τ : L
 abbrev pub Demand1Sheet : Type 0
 Demand1Sheet = (σ τ : List ℕ) (d sheet place n : ℕ) (o : Outcome Answer) (lent : OnSheet σ d sheet place o τ) → o ≡ refused n → lent.after ≡ lent.before
 
--- the table of a making of room K, with an allotment for each school, of n numbers
-abbrev pub making_table : ℕ → ℕ → ℕ → ℕ → List Line
-making_table K first second n =
-    17 when room_outside K
-    ∷ 21 when allotments_off K first second
-    ∷ 18 when store_short K n
-    ∷ []
+-- the table of a making of room K with n numbers
+abbrev pub making_table : ℕ → ℕ → List Line
+making_table K n = 17 when room_outside K ∷ 18 when store_short K n ∷ []
 
 -- the answer of a making as an outcome
 abbrev pub making_of : Made → Outcome Answer
 making_of Done = answered done
 making_of RoomOutside = refused 17
-making_of AllotmentsOff = refused 21
 making_of StoreShort = refused 18
 
--- a making of room K, with an allotment for each school, of the numbers σ that answers m and leaves τ
-pub record Demand1Making (K first second : ℕ) (σ : List ℕ) (m : Made) (τ : List ℕ) : Type 0 where
-  pub refused_exactly : (n : ℕ) → (making_of m ≡ refused n) ↔ First (making_table K first second (length σ)) n
-  pub made_exactly : (making_of m ≡ answered done) ↔ NoneApplies (making_table K first second (length σ))
-  pub in_order : numbers_in (making_table K first second (length σ)) ≡ making_order
+-- a making of room K with the numbers σ that answers m and leaves τ
+pub record Demand1Making (K : ℕ) (σ : List ℕ) (m : Made) (τ : List ℕ) : Type 0 where
+  pub refused_exactly : (n : ℕ) → (making_of m ≡ refused n) ↔ First (making_table K (length σ)) n
+  pub made_exactly : (making_of m ≡ answered done) ↔ NoneApplies (making_table K (length σ))
+  pub in_order : numbers_in (making_table K (length σ)) ≡ making_order
   pub refused_stays : (n : ℕ) → making_of m ≡ refused n → τ ≡ σ
 
 -- a writing of the file of A, D and two samples (document 02, E1) into the bytes `before`, which answers o and leaves `after`
@@ -142,7 +137,7 @@ OneEstimate = (x : Sitting) (q r : Reported) → 0 < x.symbols → JointEstimate
 
 -- ---- DEMAND 3: the replay
 
--- on a second store, newly made with the same allotments, one sitting after another in order of opening: nothing is refused, every call answers as before
+-- on a second store, newly made of the same room, one sitting after another in order of opening: nothing is refused, every call answers as before
 -- with the same rows, what the numbers stand for at the end is the same (the same desks are open, the same room is left), and every further call
 -- answers alike; and each report of the run and of the replay is demand 2's
 pub record Replayed (cs : List (Call rules)) (os os' : List (Outcome Answer)) (τ τ' : List ℕ) : Type 0 where

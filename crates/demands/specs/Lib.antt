@@ -7,5 +7,4 @@ pub mod AnyStore
 pub mod Charts
 pub mod Short
 pub mod Weight
-pub mod Schools
 pub mod Exchange

@@ -7,7 +7,7 @@ use Rattle.numbers.specs.Limits.{most_symbols, most_weight, plain_weight}
 use Rattle.logarithm.specs.Logarithm.{L}
 use Rattle.rows.specs.Rows.{numbers_of}
 use Rattle.contexts.specs.Sitting.{Sample, first, second, eight, Progress}
-use Rattle.replay.specs.Room.{whole, naming, Desk, closed, opened, new}
+use Rattle.replay.specs.Room.{Desk, closed, opened, new}
 use Rattle.replay.specs.Table.{Outcome, refused, answered}
 use Rattle.replay.specs.Machine.{opening, asking, Call, at_desk}
 use Rattle.replay.specs.Serial.{outcomes, after}
@@ -19,9 +19,9 @@ use Rattle.rules.specs.Rules.{Answer, done, contexts_left, reported, point, feed
 abbrev pub feeds : ℕ → List ℕ → List (Call rules)
 feeds i w = map (λ a. at_desk 0 (asking (feed i a))) w
 
--- desk 0 opened for school 0 with A, D, a weight and r, the two samples fed, and a report on a sheet of 44 numbers from row 0 on
+-- desk 0 opened with A, D, a weight and r, the two samples fed, and a report on a sheet of 44 numbers from row 0 on
 abbrev pub calls_of : ℕ → ℕ → ℕ → ℕ → List ℕ → List ℕ → List (Call rules)
-calls_of A D weight r w v = at_desk 0 (opening (naming A D weight 0 r)) ∷ (feeds 0 w ++ (feeds 1 v ++ (at_desk 0 (asking (reporting 44 0)) ∷ [])))
+calls_of A D weight r w v = at_desk 0 (opening (record { symbols = A; depth = D; weight = weight; reserve = r })) ∷ (feeds 0 w ++ (feeds 1 v ++ (at_desk 0 (asking (reporting 44 0)) ∷ [])))
 
 -- ---- what is told
 
@@ -47,14 +47,14 @@ row kind len code counts = kind ∷ len ∷ code ∷ take most_symbols (counts +
 
 -- desk 0 of a new room after these calls
 abbrev pub desk_after : ℕ → ℕ → ℕ → ℕ → List ℕ → List ℕ → Desk Progress
-desk_after A D weight r w v = (after rules (new (whole r)) (calls_of A D weight r w v)).at 0
+desk_after A D weight r w v = (after rules (new r) (calls_of A D weight r w v)).at 0
 
 -- what an open desk's sitting has counted of a context in a sample, symbol by symbol
 abbrev pub counts_at : Desk Progress → Sample → List ℕ → List ℕ
 counts_at closed i s = []
 counts_at (opened o p) i s = take o.symbols (eight (p.count i s))
 
--- L(n); or the calls of a sitting with A, D, a weight, r and two samples, on a new room of r contexts, all school 0's; or the counts of a context in each sample after these
+-- L(n); or the calls of a sitting with A, D, a weight, r and two samples, on a new room of r contexts; or the counts of a context in each sample after these
 pub data Question : Type 0 where
   logarithm : ℕ → Question
   sitting : ℕ → ℕ → ℕ → ℕ → List ℕ → List ℕ → Question
@@ -79,7 +79,7 @@ pub data Worked : Type 0 where
 -- what the model answers
 abbrev pub answered_to : Question → Worked
 answered_to (logarithm n) = is_value (L n)
-answered_to (sitting A D weight r w v) = are_said (map say (outcomes rules (new (whole r)) (calls_of A D weight r w v)))
+answered_to (sitting A D weight r w v) = are_said (map say (outcomes rules (new r) (calls_of A D weight r w v)))
 answered_to (counting s A D weight r w v) = are_counts (counts_at (desk_after A D weight r w v) first s) (counts_at (desk_after A D weight r w v) second s)
 
 -- what the example says

@@ -3,7 +3,7 @@
 use Rattle.std.specs.Prelude.{ℕ, ◌≤◌}
 use mathlib.Core.List.{List, Memᴰ}
 use Rattle.numbers.specs.Limits.{most_room}
-use Rattle.replay.specs.Room.{Making, size}
+use Rattle.replay.specs.Room.{Making}
 use Rattle.replay.specs.Table.{Outcome, refused}
 use Rattle.replay.specs.Machine.{Call}
 use Rattle.replay.specs.Serial.{calls, struck, serial}
@@ -16,7 +16,7 @@ use Rattle.demands.specs.Demands.{Replayed}
 abbrev pub EachCan : Type 0
 EachCan = (σ : List ℕ) (c : Call rules) → CanDo σ c
 
--- a store newly made with these allotments
+-- a store newly made of room K
 pub record NewStore (K : Making) : Type 0 where
   pub store : List ℕ
   pub made : MadeNew K store
@@ -24,7 +24,7 @@ pub record NewStore (K : Making) : Type 0 where
 
 -- every room within the limits has one
 abbrev pub EachRoom : Type 0
-EachRoom = (K : Making) → 1 ≤ size K → size K ≤ most_room → NewStore K
+EachRoom = (K : Making) → 1 ≤ K → K ≤ most_room → NewStore K
 
 -- the run of the calls cs, which answered os and left τ, replays on the store σ'
 pub record Replays (cs : List (Call rules)) (os : List (Outcome Answer)) (τ σ' : List ℕ) : Type 0 where
@@ -36,6 +36,6 @@ pub record Replays (cs : List (Call rules)) (os : List (Outcome Answer)) (τ σ'
   pub none_refused : (n : ℕ) → Memᴰ (refused n) outcomes → ⊥
   pub replayed : Replayed cs os outcomes τ end
 
--- any run on a newly made store replays on every store newly made with the same allotments
+-- any run on a newly made store replays on every store newly made of the same room
 abbrev pub Demand3Runs : Type 0
 Demand3Runs = (K : Making) (σ τ σ' : List ℕ) (cs : List (Call rules)) (os : List (Outcome Answer)) → MadeNew K σ → Run σ cs os τ → MadeNew K σ' → Replays cs os τ σ'

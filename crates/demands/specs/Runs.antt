@@ -1,6 +1,6 @@
 -- Runs of the real functions: each step is what that function's own promise allows, over the numbers before and after. Assumes nothing.
 use Rattle.std.specs.Prelude.{ℕ, ◌≡◌, List, [], ◌∷◌, length}
-use Rattle.replay.specs.Room.{Making, size}
+use Rattle.replay.specs.Room.{Making}
 use Rattle.replay.specs.Table.{Outcome}
 use Rattle.replay.specs.Machine.{opening, asking, closing, Call, at_desk, room_question}
 use Rattle.store.specs.Making.{Makes}
@@ -34,12 +34,12 @@ Does σ (at_desk d (asking (feed i a))) o τ = Moves σ (at_desk d (asking (feed
 Does σ (at_desk d (asking (reporting sheet place))) o τ = OnSheet σ d sheet place o τ
 Does σ (at_desk d (asking (charting len code a))) o τ = OnlyAsked σ (at_desk d (asking (charting len code a))) o τ
 Does σ (at_desk d closing) o τ = Moves σ (at_desk d closing) o τ
-Does σ (room_question w) o τ = OnlyAsked σ (room_question w) o τ
+Does σ room_question o τ = OnlyAsked σ room_question o τ
 
--- σ is what an accepted making with these allotments, of the room that they make, left on any numbers
+-- σ is what an accepted making of room K left, on any numbers
 pub record MadeNew (K : Making) (σ : List ℕ) : Type 0 where
   pub lent : List ℕ
-  pub makes : Makes (size K) K.first K.second lent Done σ
+  pub makes : Makes K lent Done σ
 
 -- calls one after the other, what each answered, and the numbers at the end
 pub data Run : List ℕ → List (Call rules) → List (Outcome Answer) → List ℕ → Type 0 where

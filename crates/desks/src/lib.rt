@@ -1,8 +1,8 @@
 // Opening and closing a desk, and the room question.
 ghost use Rattle.std.specs.Prelude.{◌≡◌, true, ℕ, ◌≤◌, ◌<◌, length};
-ghost use Rattle.numbers.specs.Limits.{desks, schools};
+ghost use Rattle.numbers.specs.Limits.{desks};
 ghost use Rattle.replay.specs.Machine.{opening, closing, at_desk, room_question, outside_limits};
-ghost use Rattle.replay.specs.Room.{left_for, naming};
+ghost use Rattle.replay.specs.Room.{left, naming};
 ghost use Rattle.store.specs.Layout.{header_size, desk_numbers};
 ghost use Rattle.store.specs.Sound.{soundb};
 ghost use Rattle.store.specs.Meaning.{meaning};
@@ -11,25 +11,24 @@ ghost use Rattle.calls.specs.Promises.{Moves, Asks};
 ghost use Rattle.changes.specs.Changes.{fresh_desk, Openable, Opened, Closed};
 
 use calls::{Refusal, RoomLeft, Verdict};
-use numbers::{DEEPEST, DESKS, FEWEST_SYMBOLS, MOST_SYMBOLS, MOST_WEIGHT, SCHOOLS};
+use numbers::{DEEPEST, DESKS, FEWEST_SYMBOLS, MOST_SYMBOLS, MOST_WEIGHT};
 use recording::remove_desk;
 use soundness::{reserved, sound};
 use store::layout::{
-    DEPTH, DESK_NUMBERS, DESK_SIZE, FIRST_ALLOTMENT, FIRST_DESK, HEADER, OPEN, RESERVE, ROOM,
-    SCHOOL, SYMBOLS, USED, WEIGHT, field_at,
+    DEPTH, DESK_NUMBERS, DESK_SIZE, FIRST_DESK, HEADER, OPEN, RESERVE, ROOM, SYMBOLS, USED, WEIGHT,
+    field_at,
 };
 
-// Opens a desk for an alphabet, a depth and a weight in quarters, and reserves it room of a school's. Both samples are empty.
+// Opens a desk for an alphabet, a depth and a weight in quarters, and reserves it room. Both samples are empty.
 pub fn open(
     store: &mut [u32],
     desk: u32,
     alphabet: u32,
     depth: u32,
     weight: u32,
-    school: u32,
     reservation: u32,
 ) -> Verdict
-    ensures { Moves store.old (at_desk desk (opening (naming alphabet depth weight school reservation))) (outcome_of result) store.new }
+    ensures { Moves store.old (at_desk desk (opening (naming alphabet depth weight reservation))) (outcome_of result) store.new }
 {
     if !sound(store) {
         return Verdict::Refused(Refusal::Unsound);
@@ -46,24 +45,20 @@ pub fn open(
     if MOST_WEIGHT < weight {
         return Verdict::Refused(Refusal::WeightOutside);
     }
-    if SCHOOLS <= school {
-        return Verdict::Refused(Refusal::NoSuchSchool);
-    }
-    open_reserving(store, desk, alphabet, depth, weight, school, reservation)
+    open_reserving(store, desk, alphabet, depth, weight, reservation)
 }
 
-// Refusal 6 or 23, or the opening: what the other refusals left. Room that a school has is room left, so none gets 7.
+// Refusal 6 or 7, or the opening: what the other refusals left.
 fn open_reserving(
     store: &mut [u32],
     desk: u32,
     alphabet: u32,
     depth: u32,
     weight: u32,
-    school: u32,
     reservation: u32,
 ) -> Verdict
-    requires { Openable store.old desk (naming alphabet depth weight school reservation) }
-    ensures { Moves store.old (at_desk desk (opening (naming alphabet depth weight school reservation))) (outcome_of result) store.new }
+    requires { Openable store.old desk (naming alphabet depth weight reservation) }
+    ensures { Moves store.old (at_desk desk (opening (naming alphabet depth weight reservation))) (outcome_of result) store.new }
 {
     if reservation == 0 {
         return Verdict::Refused(Refusal::BadReservation);
@@ -72,23 +67,15 @@ fn open_reserving(
     if room < reservation {
         return Verdict::Refused(Refusal::BadReservation);
     }
-    let free = left_in(store, school);
+    let free = left_in(store);
     if free < reservation {
-        return Verdict::Refused(Refusal::AboveAllotment);
+        return Verdict::Refused(Refusal::NoRoom);
     }
-    set_up(
-        store,
-        desk as usize,
-        alphabet,
-        depth,
-        weight,
-        school,
-        reservation,
-    );
+    set_up(store, desk as usize, alphabet, depth, weight, reservation);
     Verdict::Done
 }
 
-// Closes a desk: its records are taken out, and its school has the room again that it reserved.
+// Closes a desk: its records are taken out, and the room that it reserved is free.
 pub fn close(store: &mut [u32], desk: u32) -> Verdict
     ensures { Moves store.old (at_desk desk closing) (outcome_of result) store.new }
 {
@@ -105,22 +92,19 @@ pub fn close(store: &mut [u32], desk: u32) -> Verdict
     Verdict::Done
 }
 
-// How many contexts the room question finds left for a school.
-pub fn room_left(store: &[u32], school: u32) -> RoomLeft
-    ensures { Asks store.now (room_question school) (room_of result) }
+// How many contexts the room question finds left.
+pub fn room_left(store: &[u32]) -> RoomLeft
+    ensures { Asks store.now room_question (room_of result) }
 {
     if !sound(store) {
         return RoomLeft::Refused(Refusal::Unsound);
     }
-    if SCHOOLS <= school {
-        return RoomLeft::Refused(Refusal::NoSuchSchool);
-    }
-    RoomLeft::Contexts(left_in(store, school))
+    RoomLeft::Contexts(left_in(store))
 }
 
 // Whether an alphabet or a depth is outside its limits.
 fn outside_limits(alphabet: u32, depth: u32) -> bool
-    ensures { (weight school reserve : ℕ) → result ≡ outside_limits (naming alphabet depth weight school reserve) }
+    ensures { (weight reserve : ℕ) → result ≡ outside_limits (naming alphabet depth weight reserve) }
 {
     if alphabet < FEWEST_SYMBOLS {
         return true;
@@ -131,49 +115,28 @@ fn outside_limits(alphabet: u32, depth: u32) -> bool
     DEEPEST < depth
 }
 
-// A school's allotment in a sound store, less the reservations of its open desks.
-fn left_in(store: &[u32], school: u32) -> u32
-    requires { (soundb store.now ≡ true) × (school < schools) }
-    ensures { result ≡ left_for (meaning store.now) school }
+// The room of a sound store, less the reservations of its open desks.
+fn left_in(store: &[u32]) -> u32
+    requires { soundb store.now ≡ true }
+    ensures { result ≡ left (meaning store.now) }
 {
-    let held = reserved(store);
-    let first = store[FIRST_ALLOTMENT] as u64;
-    if school == 0 {
-        return (first - held.first) as u32;
-    }
-    let second = store[ROOM] as u64 - first;
-    (second - held.second) as u32
+    (store[ROOM] as u64 - reserved(store)) as u32
 }
 
 // Writes the numbers of a desk that opens.
-fn set_up(
-    store: &mut [u32],
-    desk: usize,
-    alphabet: u32,
-    depth: u32,
-    weight: u32,
-    school: u32,
-    reservation: u32,
-)
+fn set_up(store: &mut [u32], desk: usize, alphabet: u32, depth: u32, weight: u32, reservation: u32)
     requires { (header_size ≤ length store.old) × (desk < desks) }
-    ensures { Opened store.old store.new desk (naming alphabet depth weight school reservation) }
+    ensures { Opened store.old store.new desk (naming alphabet depth weight reservation) }
 {
     let from = FIRST_DESK + DESK_SIZE * desk;
     let to = from + DESK_NUMBERS;
-    lay_out(
-        &mut store[from..to],
-        alphabet,
-        depth,
-        weight,
-        school,
-        reservation,
-    );
+    lay_out(&mut store[from..to], alphabet, depth, weight, reservation);
 }
 
 // The numbers of a desk that opens, over the whole part.
-fn lay_out(part: &mut [u32], alphabet: u32, depth: u32, weight: u32, school: u32, reservation: u32)
+fn lay_out(part: &mut [u32], alphabet: u32, depth: u32, weight: u32, reservation: u32)
     requires { length part.old ≡ desk_numbers }
-    ensures { part.new ≡ fresh_desk (naming alphabet depth weight school reservation) }
+    ensures { part.new ≡ fresh_desk (naming alphabet depth weight reservation) }
 {
     let mut i: usize = 0;
     while i < DESK_NUMBERS {
@@ -184,7 +147,6 @@ fn lay_out(part: &mut [u32], alphabet: u32, depth: u32, weight: u32, school: u32
     part[SYMBOLS] = alphabet;
     part[DEPTH] = depth;
     part[WEIGHT] = weight;
-    part[SCHOOL] = school;
     part[RESERVE] = reservation;
 }
 

@@ -110,7 +110,7 @@ module _ (s : List ℕ) (d : ℕ) (r : List ℕ) (m : ℕ) (places : List ℕ) (
           no_later = rw (f.located.stand_at m (omega arith) on) (rank_mono (key_of d (take m r)) ((d + 1) * desk_span) ks (omega arith));
         })
 
-    module _ (x y : ℕ) (e : x ≡ length (keep (of_desk d) (records (used s) (lent s)))) (g : y ≡ field s d 5) where
+    module _ (x y : ℕ) (e : x ≡ length (keep (of_desk d) (records (used s) (lent s)))) (g : y ≡ field s d 4) where
       counted : x ≡ held_by d (records_in s)
       unfolding records_in
       counted = e ∙ rw (tail_lent header_size s)

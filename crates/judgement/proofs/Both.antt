@@ -7,9 +7,9 @@ use mathlib.Core.List.{List, [], reverse_aux}
 use borrow.Author.Tests.{le-ltb}
 use Rattle.numbers.specs.Sum.{sum}
 use Rattle.contexts.specs.Sitting.{Sample, first, second, contexts_held}
-use Rattle.replay.specs.Room.{whole, Opening, new, left, reserved, left_for, reserved_for}
+use Rattle.replay.specs.Room.{Opening, new, left, reserved}
 use Rattle.replay.specs.Table.{answered, verdict_of}
-use Rattle.replay.specs.Machine.{opening, at_desk, verdict, move, shift, settle, put, moved, table_of, table_at, opening_table, outside_limits, weight_outside, zero_or_above_k, above_school_room, above_room_left, answer_of, answer_at}
+use Rattle.replay.specs.Machine.{opening, at_desk, verdict, move, shift, settle, put, moved, table_of, table_at, opening_table, outside_limits, weight_outside, zero_or_above_k, above_room_left, answer_of, answer_at}
 use Rattle.rules.specs.Rules.{done, rules}
 use Rattle.rules.specs.Strings.{sitting_for}
 use Rattle.rules.proofs.TrueCounts.{stands_fresh}
@@ -29,8 +29,8 @@ module _ (shape : Shape) (l : InLimits shape) where
   abbrev w₀ : Sample → List ℕ
   w₀ i = []
 
-  pub opens : verdict rules (new (whole room_made)) (at_desk 0 (opening o)) ≡ answered done
-  unfolding verdict verdict_of table_of table_at opening_table outside_limits weight_outside zero_or_above_k above_school_room above_room_left left reserved left_for reserved_for sum answer_of answer_at
+  pub opens : verdict rules (new room_made) (at_desk 0 (opening o)) ≡ answered done
+  unfolding verdict verdict_of table_of table_at opening_table outside_limits weight_outside zero_or_above_k above_room_left left reserved sum answer_of answer_at
   opens = rw (le-ltb shape.alphabet 2 l.alphabet_low, le-ltb 8 shape.alphabet l.alphabet_high, le-ltb 6 shape.depth l.depth_high)
 
   pub seated_sits : Sits o w₀ (seated shape)

@@ -30,10 +30,10 @@ use Rattle.judgement.specs.Judgement.{room_made, opening_of}
 use Rattle.judgement.specs.Sitting.{seated, followed_by, fed_both, run_of, Means, Feeds}
 
 -- a store long enough is made
-made_done : (s : List ℕ) → store_size room_made ≤ length s → made_of room_made room_made 0 (length s) ≡ Done
+made_done : (s : List ℕ) → store_size room_made ≤ length s → made_of room_made (length s) ≡ Done
 made_done s h = rw (le-ltb (length s) (store_size room_made) h)
 
-pub seat_means : (shape : Shape) (s t u : List ℕ) (made : Made) (v : Outcome Answer) → store_size room_made ≤ length s → Makes room_made room_made 0 s made t
+pub seat_means : (shape : Shape) (s t u : List ℕ) (made : Made) (v : Outcome Answer) → store_size room_made ≤ length s → Makes room_made s made t
     → Moves t (at_desk 0 (opening (opening_of shape))) v u → Means u (seated shape)
 unfolding seated
 seat_means shape s t u made v h m p =

@@ -21,9 +21,9 @@ room_made = 256
 abbrev pub sheet_numbers : ℕ
 sheet_numbers = 5632
 
--- "The program uses weight 4", "gives its whole K to school 0", and reserves all the room
+-- "The program uses weight 4", and reserves all the room
 abbrev pub opening_of : Shape → Opening
-opening_of shape = naming shape.alphabet shape.depth plain_weight 0 room_made
+opening_of shape = naming shape.alphabet shape.depth plain_weight room_made
 
 -- the file's own two strings, most recent symbol first
 unfoldable pub strings_in : List ℕ → Shape → Sample → List ℕ

@@ -1,7 +1,7 @@
 -- What the store stands for on the way: made, a desk opened, the first sample fed and then the second. Assumes nothing.
 use Rattle.std.specs.Prelude.{ℕ, ◌≡◌, true, List}
 use Rattle.contexts.specs.Sitting.{Progress}
-use Rattle.replay.specs.Room.{whole, Room, new}
+use Rattle.replay.specs.Room.{Room, new}
 use Rattle.replay.specs.Table.{Outcome, refused, answered}
 use Rattle.replay.specs.Machine.{opening, at_desk, move}
 use Rattle.store.specs.Sound.{soundb}
@@ -14,7 +14,7 @@ use Rattle.judgement.specs.Judgement.{room_made, opening_of}
 
 -- "makes a store .. (K 256) .. opens desk 0 with r 256"
 unfoldable pub seated : Shape → Room Progress
-seated shape = move rules (new (whole room_made)) (at_desk 0 (opening (opening_of shape)))
+seated shape = move rules (new room_made) (at_desk 0 (opening (opening_of shape)))
 
 -- a run, and the one after it where no feed of the first was refused
 unfoldable pub followed_by : Outcome Answer → FeedRun → FeedRun → FeedRun

@@ -36,10 +36,6 @@ plain_weight = 4
 abbrev pub desks : ℕ
 desks = 8
 
--- schools 0 and 1
-abbrev pub schools : ℕ
-schools = 2
-
 -- K is from 1 to 4,096
 abbrev pub most_room : ℕ
 most_room = 4096

@@ -17,9 +17,6 @@ pub const LONGEST: u32 = 2048;
 // Desks 0 to 7.
 pub const DESKS: usize = 8;
 
-// Schools 0 and 1.
-pub const SCHOOLS: u32 = 2;
-
 // K is from 1 to 4,096.
 pub const MOST_ROOM: usize = 4096;
 

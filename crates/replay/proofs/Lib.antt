@@ -1,7 +1,6 @@
 pub mod Tables
 pub mod Refusals
 pub mod Desks
-pub mod Openings
 pub mod Swap
 pub mod Clean
 pub mod Runs
@@ -10,10 +9,5 @@ pub mod Order
 pub mod Reservations
 pub mod Own
 pub mod Reached
-pub mod Allotments
-pub mod NeverSeven
-pub mod Alike
-pub mod Isolation
 pub mod RealRuns
 pub mod Example
-pub mod ExampleOfSchools

@@ -14,7 +14,7 @@ use Rattle.replay.specs.Serial.{opens, outcomes, after, Done, called, struck, To
 use Rattle.replay.specs.Alone.{Alone, opens_alone, goes_on, ends, latest, Stands, EachAlone, OnTheirOwn}
 use Rattle.replay.proofs.Desks.{apart_sym}
 use Rattle.replay.proofs.Swap.{heard, shift_here, shift_away}
-use Rattle.replay.proofs.Openings.{shut}
+use Rattle.replay.proofs.Reservations.{shut}
 use Rattle.replay.proofs.Runs.{run_keeps}
 
 module _ (R : Rules) where

@@ -1,19 +1,15 @@
--- Demand 3 and the isolation of the two schools for real stores, from the contracts of their functions. Assumes nothing.
-use Prim.Native.Nat.{ℕ, ◌<◌}
+-- Demand 3 for real stores, from the contracts of their functions. Assumes nothing.
+use Prim.Native.Nat.{ℕ}
 use mathlib.Core.Path.{◌≡◌, refl, sym, ◌∙◌, ap, ap₂}
-use mathlib.Core.Bool.{Bool}
 use mathlib.Core.List.{List, [], ◌∷◌}
-use Rattle.numbers.specs.Limits.{schools}
 use Rattle.replay.specs.Room.{Making, Opening, opened, new}
 use Rattle.replay.specs.Table.{Outcome, answered}
 use Rattle.replay.specs.Machine.{Rules, asking, Call, at_desk, verdict}
 use Rattle.replay.specs.Serial.{outcomes, after, calls, answers, struck, sittings, serial}
 use Rattle.replay.specs.Alone.{OpenAlone, AnsweredAlone}
-use Rattle.replay.specs.Schools.{own_calls, own_outcomes, DifferentDesks}
 use Rattle.replay.specs.Real.{Contracts, Made, RunsReal, stop, then}
 use Rattle.replay.proofs.Replay.{replay}
 use Rattle.replay.proofs.Reached.{open_alone, answered_alone}
-use Rattle.replay.proofs.Isolation.{isolation}
 
 module _ (R : Rules) (Store : Type 0) (𝓒 : Contracts R Store) where
   -- two results that the contracts allow for one call have the same answer and the same meaning
@@ -58,7 +54,7 @@ module _ (R : Rules) (Store : Type 0) (𝓒 : Contracts R Store) where
         let said = 𝓒.answers τ υ (at_desk d (asking q)) (answered a) (runs_sound made.sound run) does in
         rw made_answers (answered_alone R K cs d q a (rw made_leaves at (sym said)))
 
-  -- DEMAND 3. Two stores newly made with the same allotments, of any contents and lengths; any run on the one, and on the other its calls,
+  -- DEMAND 3. Two stores newly made of one size, of any contents and lengths; any run on the one, and on the other its calls,
   -- the refused ones and the room questions struck out, one sitting after another.
   module _ (K : Making) (σ τ σ' τ' : Store) (cs : List (Call R)) (os os' : List (Outcome R.Answer))
       (made : Made R Store 𝓒 K σ) (run : RunsReal R Store 𝓒 σ cs os τ)
@@ -77,14 +73,3 @@ module _ (R : Rules) (Store : Type 0) (𝓒 : Contracts R Store) where
         𝓒.answers τ' υ' c o' (runs_sound made'.sound again) does'
         ∙ ap (λ m. verdict R m c) real_room
         ∙ sym (𝓒.answers τ υ c o (runs_sound made.sound run) does)
-
-  -- E7. Two stores newly made with the same allotments, of any contents and lengths, and a run on each; w is a school, 0 or 1, and
-  -- `mine` says which desks it uses.
-  module _ (K : Making) (σ τ σ' τ' : Store) (cs ds : List (Call R)) (os os' : List (Outcome R.Answer))
-      (made : Made R Store 𝓒 K σ) (run : RunsReal R Store 𝓒 σ cs os τ) (made' : Made R Store 𝓒 K σ') (run' : RunsReal R Store 𝓒 σ' ds os' τ')
-      (w : ℕ) (school : w < schools) (mine : ℕ → Bool) where
-    -- where the two schools use different desks, and the runs agree on w's calls, w gets the same answers, whatever the other does
-    pub real_isolation : DifferentDesks R w mine (struck R cs os) → DifferentDesks R w mine (struck R ds os')
-        → own_calls R w mine cs ≡ own_calls R w mine ds → own_outcomes R w mine cs os ≡ own_outcomes R w mine ds os'
-    real_isolation =
-        rw (made_answers K σ τ cs os made run, made_answers K σ' τ' ds os' made' run') (isolation R w school mine K cs ds)

@@ -1,11 +1,9 @@
 -- Each call is refused by the first line of its table that applies and answered where none does; a refused call leaves the room
 -- as it was, and the room question changes nothing. Assumes nothing.
-use Prim.Native.Nat.{ℕ, ◌≤◌, ◌<◌}
+use Prim.Native.Nat.{ℕ}
 use mathlib.Core.Path.{◌≡◌, refl}
 use mathlib.Core.Logic.{◌↔◌}
-use borrow.Author.Tests.{le-leb, lt-leb}
-use Rattle.numbers.specs.Limits.{schools}
-use Rattle.replay.specs.Room.{Room, left_for}
+use Rattle.replay.specs.Room.{Room, left}
 use Rattle.replay.specs.Table.{Outcome, answered, refused, verdict_of, NoneApplies, First}
 use Rattle.replay.specs.Machine.{Rules, Call, room_question, table_of, answer_of, verdict, shift, settle, move}
 use Rattle.replay.proofs.Tables.{refused_exactly, answered_exactly, answers_none}
@@ -35,18 +33,14 @@ module _ (R : Rules) where
   unfolding move settle
   answered_shifts ρ c a e = rw e
 
-  -- the room question answers a school's room, gets 22 for any other number, and changes nothing
-  pub question_answers : (ρ : Room R.State) (w : ℕ) → w < schools → verdict R ρ (room_question w) ≡ answered (R.room (left_for ρ w))
+  -- the room question answers the room left, and changes nothing
+  pub question_answers : (ρ : Room R.State) → verdict R ρ room_question ≡ answered (R.room (left ρ))
   unfolding verdict verdict_of table_of answer_of
-  question_answers ρ w h = rw (lt-leb schools w h)
+  question_answers ρ = refl
 
-  pub question_refused : (ρ : Room R.State) (w : ℕ) → schools ≤ w → verdict R ρ (room_question w) ≡ refused 22
-  unfolding verdict verdict_of table_of answer_of
-  question_refused ρ w h = rw (le-leb schools w h)
-
-  pub question_stays : (ρ : Room R.State) (w : ℕ) → move R ρ (room_question w) ≡ ρ
+  pub question_stays : (ρ : Room R.State) → move R ρ room_question ≡ ρ
   unfolding move shift settle
-  question_stays ρ w = go (verdict R ρ (room_question w))
+  question_stays ρ = go (verdict R ρ room_question)
     where
       go : (o : Outcome R.Answer) → settle o ρ ρ ≡ ρ
       go (refused n) = refl

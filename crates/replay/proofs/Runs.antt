@@ -15,7 +15,7 @@ module _ (R : Rules) (I : Room R.State → List (Course R) → Type 0)
       → I (after R ρ cs) (sittings R gs (struck R cs (outcomes R ρ cs)))
   unfolding sittings struck outcomes after
   run_keeps [] ρ gs h = h
-  run_keeps (room_question w ∷ cs) ρ gs h = run_keeps cs (move R ρ (room_question w)) gs (rw (question_stays R ρ w) h)
+  run_keeps (room_question ∷ cs) ρ gs h = run_keeps cs (move R ρ room_question) gs (rw (question_stays R ρ) h)
   run_keeps (at_desk d a ∷ cs) ρ gs h = go (verdict R ρ (at_desk d a)) refl (run_keeps cs (move R ρ (at_desk d a)))
     where
       go : (o : Outcome R.Answer) → verdict R ρ (at_desk d a) ≡ o

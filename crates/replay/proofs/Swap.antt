@@ -4,18 +4,30 @@ use Prim.Native.Nat.{ℕ, ◌≤◌}
 use native.Mathlib.Nat.{le_refl}
 use native.Mathlib.Omega.{arith}
 use mathlib.Core.Path.{◌≡◌, refl, ◌∙◌, ap}
-use mathlib.Core.Bool.{false}
+use mathlib.Core.Bool.{Bool, true, false}
 use lib.Dec.{eqb}
+use borrow.Author.Tests.{ltb-true, ltb-false}
 use Rattle.numbers.specs.Limits.{desks}
-use Rattle.numbers.specs.Sum.{sum}
 use Rattle.numbers.proofs.Sums.{sum_mono}
-use Rattle.replay.specs.Room.{Opening, Desk, closed, opened, Room, reserved, reservations, left, reserved_for, reservations_for, left_for}
+use Rattle.replay.specs.Room.{Opening, Desk, closed, opened, Room, reserved, reservations, left}
 use Rattle.replay.specs.Table.{answered, NoneApplies}
-use Rattle.replay.specs.Machine.{Rules, Spare, spare, Act, opening, asking, closing, at_desk, table_at, table_of, answer_at, answer_of, verdict, moved, shift}
+use Rattle.replay.specs.Machine.{Rules, Spare, spare, zero_or_above_k, above_room_left, Act, opening, asking, closing, at_desk, opening_table, table_at, table_of, answer_at, answer_of, verdict, moved, shift}
 use Rattle.replay.specs.Serial.{opens}
 use Rattle.replay.proofs.Tables.{none_answers, answers_none}
-use Rattle.replay.proofs.Openings.{Wider, granted, grants, granted_wider}
 use Rattle.replay.proofs.Desks.{apart_sym, put_same, put_other, put_swap, put_all}
+
+-- as much room or more
+pub record Wider (S W : Spare) : Type 0 where
+  pub equal : S.size ≡ W.size
+  pub more : S.free ≤ W.free
+
+still_fits : (S W : Spare) (o : Opening) → Wider S W → above_room_left S o ≡ false → above_room_left W o ≡ false
+unfolding above_room_left
+still_fits S W o h e = go (above_room_left W o) refl
+  where
+    go : (b : Bool) → above_room_left W o ≡ b → b ≡ false
+    go true above = absurd (omega (arith, ltb-true, ltb-false))
+    go false fits = refl
 
 module _ (R : Rules) where
   -- what is no opening is judged by its desk alone
@@ -27,43 +39,31 @@ module _ (R : Rules) where
 
   -- more room left refuses nothing more
   table_wider : (S W : Spare) (d : ℕ) (D : Desk R.State) (a : Act R) → Wider S W → NoneApplies (table_at R S d D a) → NoneApplies (table_at R W d D a)
-  unfolding table_at
-  table_wider S W d D (opening o) w h = grants W d D o (granted_wider S d D o W w (granted S d D o h))
+  unfolding table_at opening_table zero_or_above_k
+  table_wider S W d D (opening o) w h =
+      (h.0, (h.1.0, (h.1.1.0, (h.1.1.1.0, (rw (← w.equal) h.1.1.1.1.0, (still_fits S W o w h.1.1.1.1.1.0, tt))))))
   table_wider S W d D (asking q) w h = h
   table_wider S W d D closing w h = h
 
-  -- an act that is no opening reserves nothing more, in all or for one school: f is what a desk has by its opening alone
-  module _ (f : Desk R.State → ℕ) (none : f closed ≡ 0) (named : (o : Opening) (s t : R.State) → f (opened o s) ≡ f (opened o t)) where
-    moved_less : (D : Desk R.State) (a : Act R) → opens R a ≡ false → f (moved R D a) ≤ f D
-    unfolding moved
-    moved_less closed (opening p) n = let z : ◌≡◌ {A = ℕ} 0 1 = cc in absurd (omega arith)
-    moved_less closed (asking q) n = le_refl _
-    moved_less closed closing n = le_refl _
-    moved_less (opened o s) (opening p) n = le_refl _
-    moved_less (opened o s) (asking q) n = let e = named o s (R.next o s q) in omega arith
-    moved_less (opened o s) closing n = omega arith
+  -- an act that is no opening reserves nothing more
+  pub moved_less : (D : Desk R.State) (a : Act R) → opens R a ≡ false → reserved (moved R D a) ≤ reserved D
+  unfolding reserved moved
+  moved_less closed (opening p) n = let z : ◌≡◌ {A = ℕ} 0 1 = cc in absurd (omega arith)
+  moved_less closed (asking q) n = le_refl _
+  moved_less closed closing n = le_refl _
+  moved_less (opened o s) (opening p) n = le_refl _
+  moved_less (opened o s) (asking q) n = le_refl _
+  moved_less (opened o s) closing n = omega arith
 
-    shift_less : (ρ : Room R.State) (d : ℕ) (a : Act R) → opens R a ≡ false
-        → sum desks (λ e. f ((shift R ρ (at_desk d a)).at e)) ≤ sum desks (λ e. f (ρ.at e))
-    unfolding shift
-    shift_less ρ d a n =
-        sum_mono desks (λ e l. put_all (λ e v. f v ≤ f (ρ.at e)) ρ.at d (moved R (ρ.at d) a) (moved_less (ρ.at d) a n) (λ e. le_refl _) e)
-
-  reservations_less : (ρ : Room R.State) (d : ℕ) (a : Act R) → opens R a ≡ false
+  pub shift_less : (ρ : Room R.State) (d : ℕ) (a : Act R) → opens R a ≡ false
       → reservations (shift R ρ (at_desk d a)) ≤ reservations ρ
-  unfolding reserved
-  reservations_less = shift_less reserved refl (λ o s t. refl)
-
-  pub school_less : (w : ℕ) (ρ : Room R.State) (d : ℕ) (a : Act R) → opens R a ≡ false
-      → reservations_for (shift R ρ (at_desk d a)) w ≤ reservations_for ρ w
-  unfolding reserved_for
-  school_less w = shift_less (reserved_for w) refl (λ o s t. refl)
+  unfolding shift
+  shift_less ρ d a n =
+      sum_mono desks (λ e l. put_all (λ e v. reserved v ≤ reserved (ρ.at e)) ρ.at d (moved R (ρ.at d) a) (moved_less (ρ.at d) a n) (λ e. le_refl _) e)
 
   shift_wider : (ρ : Room R.State) (d : ℕ) (a : Act R) → opens R a ≡ false → Wider (spare ρ) (spare (shift R ρ (at_desk d a)))
-  unfolding left left_for shift
-  shift_wider ρ d a n =
-      let h = reservations_less ρ d a n in
-      record { equal = refl; more = omega arith; owns = λ w. let k = school_less w ρ d a n in omega arith }
+  unfolding left shift
+  shift_wider ρ d a n = let h = shift_less ρ d a n in record { equal = refl; more = omega arith }
 
   -- an accepted call passed its table, and answers what its desk does
   pub heard : (ρ : Room R.State) (d : ℕ) (a : Act R) (x : R.Answer) → verdict R ρ (at_desk d a) ≡ answered x

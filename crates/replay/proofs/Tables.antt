@@ -4,12 +4,9 @@ use Prim.Native.Nat.{ℕ}
 use native.Mathlib.Omega.{arith}
 use mathlib.Core.Path.{◌≡◌, refl, ap}
 use mathlib.Core.Logic.{◌↔◌}
-use mathlib.Core.Bool.{Bool, true, false, cond, not}
+use mathlib.Core.Bool.{Bool, true, false, cond}
 use mathlib.Core.List.{List, [], ◌∷◌, ◌++◌}
-use lib.Dec.{T, T_not, eqb}
-use Rattle.numbers.proofs.Tests.{left, right}
-use Rattle.numbers.proofs.Orders.{eq→eqb}
-use Rattle.replay.specs.Table.{Line, ◌when◌, line_number, applies, Outcome, refused, answered, verdict_of, NoneApplies, First, lacks}
+use Rattle.replay.specs.Table.{Line, ◌when◌, line_number, applies, Outcome, refused, answered, verdict_of, NoneApplies, First}
 
 module _ {A : Type 0} where
   -- an answer is never a refusal
@@ -56,21 +53,6 @@ module _ {A : Type 0} where
   refuses_first (m when false ∷ ls) x n e =
       let h = refuses_first ls x n e in
       record { before = m when false ∷ h.before; behind = h.behind; split = ap (m when false ∷◌) h.split; quiet = (refl, h.quiet) }
-
-  -- a refusal of another number is not the first line's
-  pub passed_by : (l : Line) (ls : List Line) (x : A) (n : ℕ) → (line_number l ≡ n → ⊥) → verdict_of (l ∷ ls) x ≡ refused n
-      → (applies l ≡ false) × (verdict_of ls x ≡ refused n)
-  unfolding verdict_of
-  passed_by (m when true) ls x n h e = absurd (h (cc))
-  passed_by (m when false) ls x n h e = (refl, e)
-
-  -- a number that no line has is not given
-  pub lacks_never : (ls : List Line) (x : A) (n : ℕ) → T (lacks n ls) → verdict_of ls x ≡ refused n → ⊥
-  unfolding lacks verdict_of
-  lacks_never [] x n h e = no_refusal refl e
-  lacks_never (m when t ∷ ls) x n h e =
-      let rest = passed_by (m when t) ls x n (λ same. T_not (eqb m n) (left (not (eqb m n)) (lacks n ls) h) (eq→eqb m n same)) e in
-      lacks_never ls x n (right (not (eqb m n)) (lacks n ls) h) rest.1
 
   -- refused n exactly when n is the number of the first line that applies
   pub refused_exactly : (ls : List Line) (x : A) (n : ℕ) → (verdict_of ls x ≡ refused n) ↔ First ls n

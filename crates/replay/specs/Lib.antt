@@ -3,5 +3,4 @@ pub mod Table
 pub mod Machine
 pub mod Serial
 pub mod Alone
-pub mod Schools
 pub mod Real

@@ -2,8 +2,8 @@
 -- What a sitting does by itself (feed, report, chart question) is a parameter, the record `Rules`. Refusal 1 stands outside:
 -- it is about a store's numbers. Assumes nothing.
 use Rattle.std.specs.Prelude.{ℕ, Bool, true, false, cond, not, ◌||◌, List, [], ◌∷◌, leb, ltb, eqb}
-use Rattle.numbers.specs.Limits.{fewest_symbols, most_symbols, deepest, most_weight, desks, schools}
-use Rattle.replay.specs.Room.{Opening, Desk, closed, opened, Room, size, left, left_for}
+use Rattle.numbers.specs.Limits.{fewest_symbols, most_symbols, deepest, most_weight, desks}
+use Rattle.replay.specs.Room.{Opening, Desk, closed, opened, Room, left}
 use Rattle.replay.specs.Table.{Line, ◌when◌, Outcome, refused, answered, verdict_of}
 
 -- a sitting by itself
@@ -16,7 +16,7 @@ pub record Rules : Type 1 where
   pub Answer : Type 0
   -- "answers only that it was done"
   pub done : Answer
-  -- what the room question answers where a school has that much room left
+  -- what the room question answers where that much room is left
   pub room : ℕ → Answer
   -- "a desk opens with both samples empty"
   pub fresh : Opening → State
@@ -26,14 +26,13 @@ pub record Rules : Type 1 where
   pub answer : Opening → State → Ask → Answer
   pub next : Opening → State → Ask → State
 
--- what an opening is held to: the room's size, the room left, and the room that each school has left
+-- what an opening is held to: the room's size and the room left
 pub record Spare : Type 0 where
   pub size : ℕ
   pub free : ℕ
-  pub own : ℕ → ℕ
 
 abbrev pub spare : {State : Type 0} → Room State → Spare
-spare ρ = record { size = size ρ.made; free = left ρ; own = left_for ρ }
+spare ρ = record { size = ρ.made; free = left ρ }
 
 -- the desks with v at desk d
 unfoldable pub put : {State : Type 0} → (ℕ → Desk State) → ℕ → Desk State → ℕ → Desk State
@@ -67,15 +66,7 @@ weight_outside o = ltb most_weight o.weight
 unfoldable pub zero_or_above_k : Spare → Opening → Bool
 zero_or_above_k S o = eqb o.reserve 0 || ltb S.size o.reserve
 
--- "a school not 0 or 1"
-abbrev pub no_such_school : ℕ → Bool
-no_such_school w = leb schools w
-
--- "an opening above its school's room"
-unfoldable pub above_school_room : Spare → Opening → Bool
-above_school_room S o = ltb (S.own o.school) o.reserve
-
--- "reservation above the room left", which 23 leaves nothing of: proofs/NeverSeven
+-- "reservation above the room left"
 unfoldable pub above_room_left : Spare → Opening → Bool
 above_room_left S o = ltb S.free o.reserve
 
@@ -86,9 +77,7 @@ opening_table S d D o =
     ∷ 3 when is_opened D
     ∷ 5 when outside_limits o
     ∷ 20 when weight_outside o
-    ∷ 22 when no_such_school o.school
     ∷ 6 when zero_or_above_k S o
-    ∷ 23 when above_school_room S o
     ∷ 7 when above_room_left S o
     ∷ []
 
@@ -118,10 +107,10 @@ module _ (R : Rules) where
     asking : R.Ask → Act
     closing : Act
 
-  -- a call: an act at a desk, or the room question, which "names a school"
+  -- a call: an act at a desk, or the room question
   pub data Call : Type 0 where
     at_desk : ℕ → Act → Call
-    room_question : ℕ → Call
+    room_question : Call
 
   -- the table of an act at desk d, which is now D
   unfoldable pub table_at : Spare → ℕ → Desk R.State → Act → List Line
@@ -129,10 +118,10 @@ module _ (R : Rules) where
   table_at S d D (asking q) = asking_table d D q
   table_at S d D closing = closing_table d D
 
-  -- the table of a call
+  -- the table of a call; of the room question "only refusal 1 applies to it"
   unfoldable pub table_of : Room R.State → Call → List Line
   table_of ρ (at_desk d a) = table_at (spare ρ) d (ρ.at d) a
-  table_of ρ (room_question w) = 22 when no_such_school w ∷ []
+  table_of ρ room_question = []
 
   -- ---- what a call answers
 
@@ -146,7 +135,7 @@ module _ (R : Rules) where
   -- what an accepted call answers
   unfoldable pub answer_of : Room R.State → Call → R.Answer
   answer_of ρ (at_desk d a) = answer_at (ρ.at d) a
-  answer_of ρ (room_question w) = R.room (left_for ρ w)
+  answer_of ρ room_question = R.room (left ρ)
 
   -- what a call answers in a room
   unfoldable pub verdict : Room R.State → Call → Outcome R.Answer
@@ -166,7 +155,7 @@ module _ (R : Rules) where
   -- the room after an accepted call: its desk alone changes
   unfoldable pub shift : Room R.State → Call → Room R.State
   shift ρ (at_desk d a) = record { made = ρ.made; at = put ρ.at d (moved (ρ.at d) a) }
-  shift ρ (room_question w) = ρ
+  shift ρ room_question = ρ
 
   -- the room after a call
   unfoldable pub move : Room R.State → Call → Room R.State

@@ -36,7 +36,7 @@ module _ (R : Rules) where
   unfoldable pub struck : List (Call R) → List (Outcome R.Answer) → List Done
   struck [] os = []
   struck (c ∷ cs) [] = []
-  struck (room_question w ∷ cs) (o ∷ os) = struck cs os
+  struck (room_question ∷ cs) (o ∷ os) = struck cs os
   struck (at_desk d a ∷ cs) (refused n ∷ os) = struck cs os
   struck (at_desk d a ∷ cs) (answered x ∷ os) = record { desk = d; act = a; answer = x } ∷ struck cs os
 

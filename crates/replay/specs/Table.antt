@@ -1,6 +1,6 @@
 -- Refusals told by an ordered table: a call is refused by the first line that applies, and answered where none does.
 -- Assumes nothing.
-use Rattle.std.specs.Prelude.{ℕ, ◌≡◌, Bool, true, false, cond, not, ◌&&◌, List, [], ◌∷◌, ◌++◌, eqb}
+use Rattle.std.specs.Prelude.{ℕ, ◌≡◌, Bool, true, false, cond, List, [], ◌∷◌, ◌++◌}
 
 -- a line of a call's table: a refusal's number, and whether it applies
 infix 68 ◌when◌
@@ -34,8 +34,3 @@ pub record First (ls : List Line) (n : ℕ) : Type 0 where
   pub behind : List Line
   pub split : ls ≡ before ++ n when true ∷ behind
   pub quiet : NoneApplies before
-
--- no line has the number n
-unfoldable pub lacks : ℕ → List Line → Bool
-lacks n [] = true
-lacks n (l ∷ ls) = not (eqb (line_number l) n) && lacks n ls

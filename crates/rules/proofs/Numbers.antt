@@ -3,11 +3,9 @@ use Prim.Native.Nat.{ℕ}
 use mathlib.Core.Path.{◌≡◌, refl}
 use mathlib.Core.Bool.{cond}
 use mathlib.Core.List.{[], ◌∷◌}
-use lib.Dec.{T}
 use lib.ListN.{take}
 use Rattle.contexts.specs.Sitting.{Progress}
 use Rattle.replay.specs.Room.{Opening, Desk, closed, opened, Room}
-use Rattle.replay.specs.Table.{lacks}
 use Rattle.replay.specs.Machine.{opening, asking, closing, Call, at_desk, room_question, is_opened, opening_table, own_lines, asking_table, closing_table, table_at, table_of}
 use Rattle.rules.specs.Rules.{Ask, feed, reporting, charting, lines_of, rules}
 use Rattle.rules.specs.Orders.{order_of, numbers_in, order_in}
@@ -25,13 +23,6 @@ at_sitting d o p (feed i a) = refl
 at_sitting d o p (reporting sheet place) = refl
 at_sitting d o p (charting len code a) = refl
 
--- no ask has 7
-pub lines_lack : (o : Opening) (p : Progress) (q : Ask) → T (lacks 7 (lines_of o p q))
-unfolding lacks lines_of
-lines_lack o p (feed i a) = tt
-lines_lack o p (reporting sheet place) = tt
-lines_lack o p (charting len code a) = tt
-
 -- THEOREM. The numbers of a call's table are those of its list, in this order; `order_in` says how far
 pub in_order : (ρ : Room Progress) (c : Call rules) → numbers_in (table_of rules ρ c) ≡ order_in ρ c
 unfolding order_of order_in table_of table_at opening_table asking_table closing_table own_lines
@@ -42,4 +33,4 @@ in_order ρ (at_desk d (asking q)) = go (ρ.at d)
     go closed = at_none d q
     go (opened o p) = at_sitting d o p q
 in_order ρ (at_desk d closing) = refl
-in_order ρ (room_question w) = refl
+in_order ρ room_question = refl

@@ -12,19 +12,18 @@ use Rattle.rules.specs.Rules.{feed, reporting, charting, rules}
 
 -- of a call at a store; 1 goes before them all
 unfoldable pub order_of : Call rules → List ℕ
--- E5: "20, after 5 and before 6"; E7: "22, .. after 5 (and after 20 ..)", "23, after 6 and before 7"
-order_of (at_desk d (opening o)) = 2 ∷ 3 ∷ 5 ∷ 20 ∷ 22 ∷ 6 ∷ 23 ∷ 7 ∷ []
+-- E5: "20, after 5 and before 6"
+order_of (at_desk d (opening o)) = 2 ∷ 3 ∷ 5 ∷ 20 ∷ 6 ∷ 7 ∷ []
 order_of (at_desk d (asking (feed i a))) = 2 ∷ 4 ∷ 8 ∷ 9 ∷ 10 ∷ []
 -- E8: "24, after 11 and before 12"
 order_of (at_desk d (asking (reporting sheet place))) = 2 ∷ 4 ∷ 11 ∷ 24 ∷ 12 ∷ []
 order_of (at_desk d (asking (charting len code a))) = 2 ∷ 4 ∷ 8 ∷ []
 order_of (at_desk d closing) = 2 ∷ 4 ∷ []
--- E7: "22, .. at the room question after 1"
-order_of (room_question w) = 22 ∷ []
+order_of room_question = []
 
--- of a making (E7: "21, after 17 and before 18")
+-- of a making
 abbrev pub making_order : List ℕ
-making_order = 17 ∷ 21 ∷ 18 ∷ []
+making_order = 17 ∷ 18 ∷ []
 
 -- of a writing of a sitting file (E1: "19, after 15")
 abbrev pub writing_order : List ℕ
@@ -49,4 +48,4 @@ unfoldable pub order_in : Room Progress → Call rules → List ℕ
 order_in ρ (at_desk d (opening o)) = order_of (at_desk d (opening o))
 order_in ρ (at_desk d (asking q)) = cond (is_opened (ρ.at d)) (order_of (at_desk d (asking q))) (take 2 (order_of (at_desk d (asking q))))
 order_in ρ (at_desk d closing) = order_of (at_desk d closing)
-order_in ρ (room_question w) = order_of (room_question w)
+order_in ρ room_question = order_of room_question

@@ -13,15 +13,15 @@ use sitting_file::Reading;
 use told::{code_of, ending_code, making_code};
 use writing::Writing;
 
-// Makes a store for `room` contexts of the numbers lent, whatever they are: `first` for school 0 and `second` for school 1.
+// Makes a store for `room` contexts of the numbers lent, whatever they are.
 #[unsafe(no_mangle)]
-pub extern "C" fn sobumikeyo_make(store: &mut [u32], room: u32, first: u32, second: u32) -> u32
-    ensures { MakeTold room first second store.old result store.new }
+pub extern "C" fn sobumikeyo_make(store: &mut [u32], room: u32) -> u32
+    ensures { MakeTold room store.old result store.new }
 {
-    making_code(store::make(store, room, first, second))
+    making_code(store::make(store, room))
 }
 
-// Opens a desk for an alphabet, a depth and a weight in quarters, and reserves it room of a school's.
+// Opens a desk for an alphabet, a depth and a weight in quarters, and reserves it room.
 #[unsafe(no_mangle)]
 pub extern "C" fn sobumikeyo_open(
     store: &mut [u32],
@@ -29,12 +29,11 @@ pub extern "C" fn sobumikeyo_open(
     alphabet: u32,
     depth: u32,
     weight: u32,
-    school: u32,
     reservation: u32,
 ) -> u32
-    ensures { MoveTold store.old (at_desk desk (opening (naming alphabet depth weight school reservation))) result store.new }
+    ensures { MoveTold store.old (at_desk desk (opening (naming alphabet depth weight reservation))) result store.new }
 {
-    code_of(desks::open(store, desk, alphabet, depth, weight, school, reservation))
+    code_of(desks::open(store, desk, alphabet, depth, weight, reservation))
 }
 
 // One more symbol of a sample at a desk.
@@ -45,7 +44,7 @@ pub extern "C" fn sobumikeyo_feed(store: &mut [u32], desk: u32, sample: u32, sym
     code_of(feeding::feed(store, desk, sample, symbol))
 }
 
-// Closes a desk: its school has the room again that it reserved.
+// Closes a desk: the room that it reserved is free.
 #[unsafe(no_mangle)]
 pub extern "C" fn sobumikeyo_close(store: &mut [u32], desk: u32) -> u32
     ensures { MoveTold store.old (at_desk desk closing) result store.new }
@@ -100,12 +99,12 @@ pub extern "C" fn sobumikeyo_report(
     }
 }
 
-// Writes how many contexts a school has left.
+// Writes how many contexts are left.
 #[unsafe(no_mangle)]
-pub extern "C" fn sobumikeyo_room(store: &[u32], school: u32, left: &mut u32) -> u32
-    ensures { RoomTold store.now school result left.old left.new }
+pub extern "C" fn sobumikeyo_room(store: &[u32], left: &mut u32) -> u32
+    ensures { RoomTold store.now result left.old left.new }
 {
-    match desks::room_left(store, school) {
+    match desks::room_left(store) {
         RoomLeft::Refused(why) => calls::number_of(why),
         RoomLeft::Contexts(n) => {
             *left = n;

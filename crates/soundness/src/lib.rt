@@ -1,23 +1,20 @@
-// The soundness test of a store: the frame, one pass over the records in use, the desks and the schools' reservations.
+// The soundness test of a store: the frame, one pass over the records in use, the desks and the reservations.
 ghost use Rattle.std.specs.Prelude.{◌≡◌, ◌+◌, ◌*◌, ◌≤◌, ◌<◌, length, take, drop};
-ghost use Rattle.numbers.specs.Limits.{most_symbols, desks, schools, most_room};
+ghost use Rattle.numbers.specs.Limits.{most_symbols, desks, most_room};
 ghost use Rattle.numbers.specs.Sum.{sum};
 ghost use Rattle.numbers.specs.Every.{every, all};
 ghost use Rattle.records.specs.Records.{width, records, key};
 ghost use Rattle.contexts.specs.Keys.{desk_of, desk_span, eights};
 ghost use Rattle.contexts.specs.Sitting.{sum_of};
-ghost use Rattle.store.specs.Layout.{header_size, first_allotment, room};
-ghost use Rattle.store.specs.Sound.{soundb, of_alphabet, frame_ok, limits_ok, slots_ok, desk_test, reserved_at, school_ok, quiet_from, counts_ok, table_ok};
+ghost use Rattle.store.specs.Layout.{header_size};
+ghost use Rattle.store.specs.Sound.{soundb, of_alphabet, frame_ok, limits_ok, slots_ok, desk_test, reserved_at, quiet_from, counts_ok, table_ok};
 ghost use Rattle.store.specs.Walk.{largest_sum, Summed, oldest_ok, ends_ok, up_mark, key_fits, seen_mark, mark_ok, step_ok, tally_ok, passb};
 
-use numbers::{
-    DEEPEST, DESKS, FEWEST_SYMBOLS, LONGEST, MOST_ROOM, MOST_SYMBOLS, MOST_WEIGHT, SCHOOLS,
-};
+use numbers::{DEEPEST, DESKS, FEWEST_SYMBOLS, LONGEST, MOST_ROOM, MOST_SYMBOLS, MOST_WEIGHT};
 use records::{COUNTS, DESK_SPAN, WIDTH};
 use store::layout::{
-    COUNTS_FIRST, COUNTS_SECOND, DEPTH, DESK_SIZE, FIRST_ALLOTMENT, FIRST_DESK, HEADER, OPEN,
-    RECENT_FIRST, RECENT_SECOND, RESERVE, ROOM, SCHOOL, SIZE_FIRST, SIZE_SECOND, SLOTS, SYMBOLS,
-    USED, WEIGHT, field_at,
+    COUNTS_FIRST, COUNTS_SECOND, DEPTH, DESK_SIZE, FIRST_DESK, HEADER, OPEN, RECENT_FIRST,
+    RECENT_SECOND, RESERVE, ROOM, SIZE_FIRST, SIZE_SECOND, SLOTS, SYMBOLS, USED, WEIGHT, field_at,
 };
 
 // Whether a lent store stands for sittings.
@@ -26,15 +23,16 @@ pub fn sound(store: &[u32]) -> bool
 {
     if frame_ok(store) {
         let many = store[USED] as usize;
+        let room = store[ROOM] as u64;
         let body = &store[HEADER..];
         if pass(store, body, many) {
-            return schools_ok(store);
+            return reserved(store) <= room;
         }
     }
     false
 }
 
-// The length, the room, the number of records in use and school 0's allotment.
+// The length, the room and the number of records in use.
 fn frame_ok(store: &[u32]) -> bool
     ensures { result ≡ frame_ok store.now }
 {
@@ -44,9 +42,7 @@ fn frame_ok(store: &[u32]) -> bool
         if 1 <= room {
             if room <= MOST_ROOM {
                 if HEADER + WIDTH * room <= len {
-                    if store[USED] as usize <= room {
-                        return store[FIRST_ALLOTMENT] as usize <= room;
-                    }
+                    return store[USED] as usize <= room;
                 }
             }
         }
@@ -274,7 +270,7 @@ fn desk_ok(store: &[u32], desk: usize, many: u32) -> bool
     true
 }
 
-// Whether A, D, the weight, the school, the reservation and the lengths of a desk are within their limits.
+// Whether A, D, the weight, the reservation and the lengths of a desk are within their limits.
 fn limits_ok(store: &[u32], desk: usize) -> bool
     requires { (header_size ≤ length store.now) × (desk < desks) }
     ensures { result ≡ limits_ok store.now desk }
@@ -290,9 +286,6 @@ fn limits_ok(store: &[u32], desk: usize) -> bool
         return false;
     }
     if MOST_WEIGHT < field_at(store, desk, WEIGHT) {
-        return false;
-    }
-    if SCHOOLS <= field_at(store, desk, SCHOOL) {
         return false;
     }
     if field_at(store, desk, RESERVE) < 1 {
@@ -336,52 +329,27 @@ fn all_below(part: &[u32], a: u32) -> bool
     true
 }
 
-// Whether each school's reservations are within its allotment.
-fn schools_ok(store: &[u32]) -> bool
-    requires { (header_size ≤ length store.now) × (first_allotment store.now ≤ room store.now) }
-    ensures { result ≡ every schools (school_ok store.now) }
-{
-    let held = reserved(store);
-    let first = store[FIRST_ALLOTMENT] as u64;
-    let second = store[ROOM] as u64 - first;
-    if held.first <= first {
-        return held.second <= second;
-    }
-    false
-}
-
-// What the open desks have reserved for each school.
-#[derive(Drop)]
-pub struct BySchool {
-    pub first: u64,
-    pub second: u64,
-}
-
-// The same in one walk over the desks.
-pub fn reserved(store: &[u32]) -> BySchool
+// What the open desks have reserved.
+pub fn reserved(store: &[u32]) -> u64
     requires { header_size ≤ length store.now }
-    ensures { (result.first ≡ sum desks (reserved_at store.now 0)) × (result.second ≡ sum desks (reserved_at store.now 1)) }
+    ensures { result ≡ sum desks (reserved_at store.now) }
 {
-    let mut first: u64 = 0;
-    let mut second: u64 = 0;
+    let mut sum: u64 = 0;
     let mut desk: usize = 0;
     while desk < DESKS {
-        first = first + reserved_at(store, desk, 0);
-        second = second + reserved_at(store, desk, 1);
+        sum = sum + reserved_at(store, desk);
         desk = desk + 1;
     }
-    BySchool { first, second }
+    sum
 }
 
-// What a desk has reserved for a school.
-fn reserved_at(store: &[u32], desk: usize, school: u32) -> u64
+// What a desk has reserved.
+fn reserved_at(store: &[u32], desk: usize) -> u64
     requires { (header_size ≤ length store.now) × (desk < desks) }
-    ensures { (result ≡ reserved_at store.now school desk) × (result < 4294967296) }
+    ensures { (result ≡ reserved_at store.now desk) × (result < 4294967296) }
 {
     if field_at(store, desk, OPEN) == 1 {
-        if field_at(store, desk, SCHOOL) == school {
-            return field_at(store, desk, RESERVE) as u64;
-        }
+        return field_at(store, desk, RESERVE) as u64;
     }
     0
 }

@@ -52,7 +52,6 @@ module _ (s : List ℕ) (h : Sound s) where
           most = h.alphabet_most d o;
           depth = h.depth d o;
           weight = h.weight d o;
-          school = h.school d o;
           some = h.reserve_some d o;
           sizes = h.lengths d o;
           within = h.reserved_held d o;
@@ -120,7 +119,7 @@ pub stands_sound : (s : List ℕ) → Sound s → soundb s ≡ true
 stands_sound s h =
     let up = apart_rises 0 (records_in s) (λ i l. omega arith) (λ i j l m. h.in_order i j l (inside s h j m)) in
     passes s (record {
-      framed = record { some = h.room_some; most = h.room_most; long = h.long; few = h.few; allotments = h.allotments };
+      framed = record { some = h.room_some; most = h.room_most; long = h.long; few = h.few };
       up = up;
       each = all_of (record_ok s (records_in s)) (records_in s) [] (record_at_lem s h up);
       each_desk = every_of desks (desk_ok s (records_in s)) (each_desk s h);

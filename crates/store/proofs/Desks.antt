@@ -2,15 +2,15 @@
 use mathlib.Core.Path.{◌≡◌, sym, ◌∙◌}
 use mathlib.Core.Bool.{Bool, true, ◌&&◌}
 use mathlib.Core.List.{List}
-use Prim.Native.Nat.{ℕ, ◌+◌, ◌-◌, ◌≤◌, ◌<◌}
+use Prim.Native.Nat.{ℕ, ◌+◌, ◌-◌, ◌≤◌}
 use native.Mathlib.Omega.{arith}
-use lib.Dec.{T, ltb, leb, leb→le, le→leb, ltb→lt, lt→ltb}
+use lib.Dec.{T, leb, leb→le, le→leb}
 use lib.ListN.{take, drop}
-use Rattle.numbers.specs.Limits.{fewest_symbols, most_symbols, deepest, most_weight, longest, schools}
+use Rattle.numbers.specs.Limits.{fewest_symbols, most_symbols, deepest, most_weight, longest}
 use Rattle.numbers.specs.Every.{all}
 use Rattle.numbers.proofs.Tests.{both, left, right, is_true, is_false}
 use Rattle.contexts.specs.Sitting.{Sample}
-use Rattle.store.specs.Layout.{is_open, symbols_at, depth_at, weight_at, school_at, reserve_at, size_at, slots_at}
+use Rattle.store.specs.Layout.{is_open, symbols_at, depth_at, weight_at, reserve_at, size_at, slots_at}
 use Rattle.store.specs.Sound.{of_alphabet, each_sample, limits_ok, desk_test}
 use Rattle.store.proofs.Many.{sample_at, sample_of_lem}
 
@@ -20,7 +20,6 @@ pub record DeskStands (s : List ℕ) (d many : ℕ) : Type 0 where
   pub most : symbols_at s d ≤ most_symbols
   pub depth : depth_at s d ≤ deepest
   pub weight : weight_at s d ≤ most_weight
-  pub school : school_at s d < schools
   pub some : 1 ≤ reserve_at s d
   pub sizes : (i : Sample) → size_at s d i ≤ longest
   pub within : many ≤ reserve_at s d
@@ -49,15 +48,13 @@ module _ (s : List ℕ) (d many : ℕ) (here : T (is_open s d)) where
       let two = right (leb (symbols_at s d) most_symbols) _ one in
       let three = right (leb (depth_at s d) deepest) _ two in
       let four = right (leb (weight_at s d) most_weight) _ three in
-      let five = right (ltb (school_at s d) schools) _ four in
       record {
         fewest = leb→le fewest_symbols (symbols_at s d) (left (leb fewest_symbols (symbols_at s d)) _ limits);
         most = leb→le (symbols_at s d) most_symbols (left (leb (symbols_at s d) most_symbols) _ one);
         depth = leb→le (depth_at s d) deepest (left (leb (depth_at s d) deepest) _ two);
         weight = leb→le (weight_at s d) most_weight (left (leb (weight_at s d) most_weight) _ three);
-        school = ltb→lt (school_at s d) schools (left (ltb (school_at s d) schools) _ four);
-        some = leb→le 1 (reserve_at s d) (left (leb 1 (reserve_at s d)) _ five);
-        sizes = λ i. leb→le (size_at s d i) longest (sample_at (λ j. leb (size_at s d j) longest) (right (leb 1 (reserve_at s d)) _ five) i);
+        some = leb→le 1 (reserve_at s d) (left (leb 1 (reserve_at s d)) _ four);
+        sizes = λ i. leb→le (size_at s d i) longest (sample_at (λ j. leb (size_at s d j) longest) (right (leb 1 (reserve_at s d)) _ four) i);
         within = leb→le many (reserve_at s d) (left (leb many (reserve_at s d)) slots rest);
         slots = sample_at (λ i. all (of_alphabet (symbols_at s d)) (slots_at s d i)) (right (leb many (reserve_at s d)) slots rest);
       }
@@ -71,9 +68,8 @@ module _ (s : List ℕ) (d many : ℕ) (here : T (is_open s d)) where
       (both (leb (symbols_at s d) most_symbols) _ (le→leb (symbols_at s d) most_symbols h.most)
       (both (leb (depth_at s d) deepest) _ (le→leb (depth_at s d) deepest h.depth)
       (both (leb (weight_at s d) most_weight) _ (le→leb (weight_at s d) most_weight h.weight)
-      (both (ltb (school_at s d) schools) _ (lt→ltb (school_at s d) schools h.school)
       (both (leb 1 (reserve_at s d)) _ (le→leb 1 (reserve_at s d) h.some)
-      (sample_of_lem (λ i. leb (size_at s d i) longest) (λ i. le→leb (size_at s d i) longest (h.sizes i)))))))))
+      (sample_of_lem (λ i. leb (size_at s d i) longest) (λ i. le→leb (size_at s d i) longest (h.sizes i))))))))
       (both (leb many (reserve_at s d)) _ (le→leb many (reserve_at s d) h.within) (sample_of_lem (λ i. all (of_alphabet (symbols_at s d)) (slots_at s d i)) h.slots)))
 
 -- six places of the store, as the code lends them

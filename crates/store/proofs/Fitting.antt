@@ -1,13 +1,13 @@
 -- The meaning of a sound store is within document 01's limits. Assumes nothing.
-use mathlib.Core.Path.{◌≡◌, refl, sym, ap₂, ◌∙◌, subst}
+use mathlib.Core.Path.{◌≡◌, refl, sym, ◌∙◌, subst}
 use mathlib.Core.Bool.{Bool, true, false, cond, ◌&&◌}
 use mathlib.Core.List.{List, [], ◌∷◌, ◌++◌}
-use Prim.Native.Nat.{ℕ, zero, suc, min, ◌-◌, ◌≤◌, ◌<◌}
+use Prim.Native.Nat.{ℕ, zero, suc, min, ◌≤◌, ◌<◌}
 use native.Mathlib.Omega.{arith}
 use borrow.Author.Tests.{le-ltb, lt-ltb}
-use lib.Dec.{T, ltb, eqb, ltb→lt, lt→ltb}
+use lib.Dec.{T, ltb, ltb→lt, lt→ltb}
 use lib.ListN.{length, take, length-take}
-use Rattle.numbers.specs.Limits.{desks, schools}
+use Rattle.numbers.specs.Limits.{desks}
 use Rattle.numbers.specs.Sum.{sum}
 use Rattle.numbers.specs.Every.{all}
 use Rattle.numbers.proofs.Tests.{T?, both, left, right, is_true, is_false}
@@ -17,9 +17,8 @@ use Rattle.contexts.specs.Context.{is_context}
 use Rattle.contexts.specs.Sitting.{Sample, Progress}
 use Rattle.contexts.proofs.Strings.{context_cons}
 use Rattle.contexts.proofs.Oldest.{context_parent}
-use Rattle.replay.specs.Room.{size, allotment, Opening, closed, opened, reserved_for, reservations_for, ForASchool, Allotted}
-use Rattle.replay.proofs.Allotments.{reservations_within}
-use Rattle.store.specs.Layout.{room, first_allotment, making_in, is_open, symbols_at, depth_at, size_at, slots_at}
+use Rattle.replay.specs.Room.{Opening, closed, opened, reserved}
+use Rattle.store.specs.Layout.{is_open, symbols_at, depth_at, size_at, slots_at}
 use Rattle.store.specs.Sound.{of_alphabet, reserved_at, soundb}
 use Rattle.store.specs.Plain.{Open}
 use Rattle.store.specs.Meaning.{opening_at, progress_at, desk_at, meaning, SittingFits, Fits}
@@ -61,7 +60,6 @@ module _ (s : List ℕ) (h : Passed s) (d : ℕ) (o : Open s d) where
     alphabet_most = (desk_passed s h d o).most;
     depth_most = (desk_passed s h d o).depth;
     weight_most = (desk_passed s h d o).weight;
-    school_one = (desk_passed s h d o).school;
     reserve_some = (desk_passed s h d o).some;
     sizes = (desk_passed s h d o).sizes;
     recent_length = recent_long;
@@ -85,54 +83,19 @@ module _ (s : List ℕ) (h : Passed s) (d : ℕ) (o : Open s d) where
     held_reserved = omega (arith, held_kept s h d o, (desk_passed s h d o).within);
   }
 
--- ---- the schools
-
--- the allotments make K
-size_room : (s : List ℕ) → first_allotment s ≤ room s → size (making_in s) ≡ room s
-size_room s h = omega arith
-
-pub making_same : (s t : List ℕ) → room t ≡ room s → first_allotment t ≡ first_allotment s → making_in t ≡ making_in s
-making_same s t p q = ap₂ (λ (K F : ℕ). record { first = F; second = K - F }) p q
-
--- what a desk has reserved for a school
-desk_reserved : (s : List ℕ) (w d : ℕ) → d < desks → reserved_for w (desk_at s d) ≡ reserved_at s w d
-unfolding reserved_for
-desk_reserved s w d l = rw (lt-ltb d desks l) (go (is_open s d))
+-- a desk's reservation
+pub desk_reserved : (s : List ℕ) (d : ℕ) → d < desks → reserved (desk_at s d) ≡ reserved_at s d
+unfolding reserved
+desk_reserved s d l = rw (lt-ltb d desks l) (go (is_open s d))
   where
-    go : (t : Bool) → reserved_for w (cond t (opened (opening_at s d) (progress_at s d)) closed) ≡ cond t (cond (eqb (opening_at s d).school w) (opening_at s d).reserve 0) 0
+    go : (t : Bool) → reserved (cond t (opened (opening_at s d) (progress_at s d)) closed) ≡ cond t (opening_at s d).reserve 0
     go true = refl
     go false = refl
 
--- what the desks of the meaning have reserved for a school, as `reserved` answers it
-pub reserved_means : (s : List ℕ) (w : ℕ) → reservations_for (meaning s) w ≡ sum desks (reserved_at s w)
+-- what the desks of the meaning have reserved, as `reserved` answers it
+pub reserved_means : (s : List ℕ) → sum desks (λ d. reserved ((meaning s).at d)) ≡ sum desks (reserved_at s)
 unfolding meaning
-reserved_means s w = sum_cong desks (λ d l. desk_reserved s w d l)
-
-for_a_school : (s : List ℕ) → Passed s → (d : ℕ) → ForASchool (desk_at s d)
-for_a_school s h d = elim (open? s d) [
-  | yes o ↦ rw (desk_opened s d o) (desk_passed s h d o).school
-  | no n ↦ rw (desk_closed s d n) tt
-]
-
--- the room of the meaning is K
-pub room_made_lem : (s : List ℕ) → soundb s ≡ true → size (meaning s).made ≡ room s
-unfolding meaning
-room_made_lem s e = size_room s (passed s e).framed.allotments
-
--- THEOREM. In the meaning of a store that passes the test each school is within its allotment
-pub meaning_allotted : (s : List ℕ) → soundb s ≡ true → Allotted (meaning s)
-unfolding meaning
-meaning_allotted s e =
-    let h = passed s e in
-    record {
-      open_for = λ d l. for_a_school s h d;
-      within = λ w l. omega (arith, reserved_means s w, h.reserves w l);
-    }
-
--- and back: the schools' part of the test
-pub allotted_reserves : (s : List ℕ) → Allotted (meaning s) → (w : ℕ) → w < schools → sum desks (reserved_at s w) ≤ allotment (making_in s) w
-unfolding meaning
-allotted_reserves s h w l = omega (arith, reserved_means s w, h.within w l)
+reserved_means s = sum_cong desks (λ d l. desk_reserved s d l)
 
 -- THEOREM. The meaning of a store that passes the test is within document 01's limits, also where its counts are those of no string
 pub meaning_fits : (s : List ℕ) → soundb s ≡ true → Fits (meaning s)
@@ -140,15 +103,14 @@ unfolding meaning
 meaning_fits s e =
     let h = passed s e in
     record {
-      room_some = omega (arith, h.framed.some, size_room s h.framed.allotments);
-      room_most = omega (arith, h.framed.most, size_room s h.framed.allotments);
+      room_some = h.framed.some;
+      room_most = h.framed.most;
       eight_desks = λ d l. rw (le-ltb d desks l);
       sittings = λ d o p q. elim (open? s d) [
         | yes n ↦ of_opened s d o p (sym (desk_opened s d n) ∙ q) (sitting_fits s h d n)
         | no n ↦ absurd (let z : closed ≡ opened o p = sym (desk_closed s d n) ∙ q in let w : ◌≡◌ {A = ℕ} 0 1 = cc in omega arith)
       ];
-      reservations = reservations_within (meaning s) (meaning_allotted s e);
-      allotted = meaning_allotted s e;
+      reservations = omega (arith, reserved_means s, h.reserves);
     }
   where
     of_opened : (s : List ℕ) (d : ℕ) (o : Opening) (p : Progress) → opened (opening_at s d) (progress_at s d) ≡ opened o p → SittingFits (opening_at s d) (progress_at s d) → SittingFits o p

@@ -73,9 +73,8 @@ module _ (s t : List ℕ) (d : ℕ) (e : SameDesk s t d) where
       let p = e.fields 1 (omega arith) in
       let q = e.fields 2 (omega arith) in
       let w = e.fields 3 (omega arith) in
-      let v = e.fields 4 (omega arith) in
-      let r = e.fields 5 (omega arith) in
-      λ j. record { symbols = p j; depth = q j; weight = w j; school = v j; reserve = r j }
+      let r = e.fields 4 (omega arith) in
+      λ j. record { symbols = p j; depth = q j; weight = w j; reserve = r j }
 
   same_progress : d < desks → symbols_at s d ≤ most_symbols → depth_at s d ≤ deepest → progress_at s d ≡ progress_at t d
   same_progress l most deep =

@@ -6,12 +6,12 @@ use Prim.Native.Nat.{ℕ, ◌≤◌, ◌<◌}
 use native.Mathlib.Omega.{arith}
 use lib.Dec.{T, ltb, eqb, leb→le, le→leb, ltb→lt, eqb→eq}
 use lib.ListN.{length, drop, get_or, length-take, get_or-eq_default}
-use Rattle.numbers.specs.Limits.{most_symbols, deepest, desks, schools}
+use Rattle.numbers.specs.Limits.{most_symbols, deepest, desks}
 use Rattle.numbers.specs.Sum.{sum}
 use Rattle.numbers.specs.Every.{every, all}
 use Rattle.numbers.proofs.Tests.{T?, both, left, right, or_rest, of_true, is_true, is_false}
 use Rattle.numbers.proofs.Orders.{less, same, more, order}
-use Rattle.numbers.proofs.Every.{every_at, every_of, all_at}
+use Rattle.numbers.proofs.Every.{every_at, all_at}
 use Rattle.contexts.specs.Keys.{key_of, desk_of, context_of}
 use Rattle.contexts.specs.Sitting.{Sample, sum_of}
 use Rattle.contexts.proofs.Strings.{context_more}
@@ -20,9 +20,8 @@ use Rattle.records.specs.Records.{key, keys, counts_of, start_of, rises, blank}
 use Rattle.records.specs.Held.{held}
 use Rattle.records.proofs.Finding.{lookup_absent, lookup_held, key_lookup}
 use Rattle.records.proofs.Counting.{count_blank, total_blank}
-use Rattle.replay.specs.Room.{allotment}
-use Rattle.store.specs.Layout.{header_size, making_in, symbols_at, depth_at, size_at, records_in}
-use Rattle.store.specs.Sound.{each_sample, frame_ok, desk_ok, held_by, reserved_at, key_ok, quiet_from, counts_ok, sample_ok, table_ok, parent_ok, record_ok, records_ok, school_ok, soundb}
+use Rattle.store.specs.Layout.{header_size, room, symbols_at, depth_at, size_at, records_in}
+use Rattle.store.specs.Sound.{each_sample, frame_ok, desk_ok, held_by, reserved_at, key_ok, quiet_from, counts_ok, sample_ok, table_ok, parent_ok, record_ok, records_ok, soundb}
 use Rattle.store.specs.Plain.{Open, ContextAt, record_for}
 use Rattle.store.proofs.Many.{sample_at}
 use Rattle.store.proofs.Desks.{DeskStands, desk_stands}
@@ -33,7 +32,7 @@ pub record Passed (s : List ℕ) : Type 0 where
   pub up : T (rises 0 (keys (records_in s)))
   pub each : T (all (record_ok s (records_in s)) (records_in s))
   pub each_desk : T (every desks (desk_ok s (records_in s)))
-  pub reserves : (w : ℕ) → w < schools → sum desks (reserved_at s w) ≤ allotment (making_in s) w
+  pub reserves : sum desks (reserved_at s) ≤ room s
 
 pub passed : (s : List ℕ) → soundb s ≡ true → Passed s
 unfolding soundb records_ok
@@ -48,8 +47,7 @@ passed s e =
       up = left (rises 0 (keys rs)) _ three;
       each = right (rises 0 (keys rs)) _ three;
       each_desk = right (records_ok s rs) _ two;
-      reserves = λ w l. leb→le (sum desks (reserved_at s w)) (allotment (making_in s) w)
-          (every_at schools (school_ok s) (right (records_ok s rs && every desks (desk_ok s rs)) _ one) w l);
+      reserves = leb→le (sum desks (reserved_at s)) (room s) (right (records_ok s rs && every desks (desk_ok s rs)) _ one);
     }
 
 -- a sound store has its header, so a desk's numbers can be read
@@ -67,7 +65,7 @@ passes s h =
     (both (frame_ok s) _ (frame_of s h.framed)
     (both (records_ok s rs && every desks (desk_ok s rs)) _
     (both (records_ok s rs) _ (both (rises 0 (keys rs)) _ h.up h.each) h.each_desk)
-    (every_of schools (school_ok s) (λ w l. le→leb (sum desks (reserved_at s w)) (allotment (making_in s) w) (h.reserves w l)))))
+    (le→leb (sum desks (reserved_at s)) (room s) h.reserves)))
 
 -- ---- eight counts
 

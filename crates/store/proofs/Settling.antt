@@ -9,7 +9,7 @@ use Rattle.store.specs.Sound.{soundb}
 use Rattle.store.specs.Meaning.{meaning}
 use Rattle.store.specs.Making.{Makes}
 use Rattle.store.specs.declared.Made.{Made}
-use Rattle.store.specs.declared.Made.TheVariants.{Done, RoomOutside, AllotmentsOff, StoreShort}
+use Rattle.store.specs.declared.Made.TheVariants.{Done, RoomOutside, StoreShort}
 
 -- what two makings have in common
 pub record SameMaking (K : ℕ) (a b : Made) (x y : List ℕ) : Type 0 where
@@ -23,12 +23,11 @@ pub record SameMaking (K : ℕ) (a b : Made) (x y : List ℕ) : Type 0 where
 done? : (a : Made) → Dec (a ≡ Done)
 done? Done = yes refl
 done? RoomOutside = no (λ e. let z : ◌≡◌ {A = ℕ} 0 1 = cc in omega arith)
-done? AllotmentsOff = no (λ e. let z : ◌≡◌ {A = ℕ} 0 1 = cc in omega arith)
 done? StoreShort = no (λ e. let z : ◌≡◌ {A = ℕ} 0 1 = cc in omega arith)
 
--- THEOREM. Two makings of one room and the same allotments with the same numbers answer the same and leave the same meaning; where they refuse, the same numbers
-pub make_settled : (K first second : ℕ) (s : List ℕ) (a b : Made) (x y : List ℕ) → Makes K first second s a x → Makes K first second s b y → SameMaking K a b x y
-make_settled K first second s a b x y m n = elim (done? a) [
+-- THEOREM. Two makings of one room with the same numbers answer the same and leave the same meaning; where they refuse, the same numbers
+pub make_settled : (K : ℕ) (s : List ℕ) (a b : Made) (x y : List ℕ) → Makes K s a x → Makes K s b y → SameMaking K a b x y
+make_settled K s a b x y m n = elim (done? a) [
   | yes e ↦
       let f : b ≡ Done = sym same ∙ e in
       record {

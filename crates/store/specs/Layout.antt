@@ -1,9 +1,8 @@
 -- The numbers of a store: a header of 2,048 numbers, then the records of all desks. Assumes nothing.
-use Rattle.std.specs.Prelude.{Bool, List, ℕ, ◌+◌, ◌-◌, ◌*◌, take, drop, get_or, eqb}
+use Rattle.std.specs.Prelude.{Bool, List, ℕ, ◌+◌, ◌*◌, take, drop, get_or, eqb}
 use Rattle.numbers.specs.Limits.{deepest}
 use Rattle.contexts.specs.Sitting.{Sample, first, second, sum_of}
 use Rattle.records.specs.Records.{width, records, counts_of}
-use Rattle.replay.specs.Room.{Making}
 
 -- how many numbers the header has
 abbrev pub header_size : ℕ
@@ -23,20 +22,13 @@ room s = get_or s 0 0
 abbrev pub used : List ℕ → ℕ
 used s = get_or s 1 0
 
--- school 0's allotment; school 1 has the rest of K
-abbrev pub first_allotment : List ℕ → ℕ
-first_allotment s = get_or s 2 0
-
-abbrev pub making_in : List ℕ → Making
-making_in s = record { first = first_allotment s; second = room s - first_allotment s }
-
 -- where the numbers of a desk begin; each desk has 32
 abbrev pub desk_start : ℕ → ℕ
 desk_start d = 16 + 32 * d
 
--- .. the first six of them as the opening left them: open or not, A, D, the weight, the school, the reservation
+-- .. the first five of them as the opening left them: open or not, A, D, the weight, the reservation
 abbrev pub opening_numbers : ℕ
-opening_numbers = 6
+opening_numbers = 5
 
 -- .. and behind them the two lengths and six recent symbols of each sample, in use as well
 abbrev pub desk_numbers : ℕ
@@ -49,7 +41,7 @@ field s d f = get_or s (desk_start d + f) 0
 abbrev pub is_open : List ℕ → ℕ → Bool
 is_open s d = eqb (field s d 0) 1
 
--- A, D, the weight, the school and the reservation
+-- A, D, the weight and the reservation
 abbrev pub symbols_at : List ℕ → ℕ → ℕ
 symbols_at s d = field s d 1
 
@@ -59,11 +51,8 @@ depth_at s d = field s d 2
 abbrev pub weight_at : List ℕ → ℕ → ℕ
 weight_at s d = field s d 3
 
-abbrev pub school_at : List ℕ → ℕ → ℕ
-school_at s d = field s d 4
-
 abbrev pub reserve_at : List ℕ → ℕ → ℕ
-reserve_at s d = field s d 5
+reserve_at s d = field s d 4
 
 -- n and m
 abbrev pub size_field : Sample → ℕ

@@ -1,42 +1,37 @@
 -- Making a store. Assumes nothing.
-use Rattle.std.specs.Prelude.{◌≡◌, Bool, true, cond, not, ◌||◌, List, ℕ, ◌+◌, length, drop, ltb, eqb}
+use Rattle.std.specs.Prelude.{◌≡◌, Bool, true, cond, ◌||◌, List, ℕ, length, drop, ltb}
 use Rattle.numbers.specs.Limits.{most_room}
 use Rattle.replay.specs.Room.{new}
 use Rattle.store.specs.Layout.{store_size}
 use Rattle.store.specs.Sound.{soundb}
 use Rattle.store.specs.Meaning.{meaning}
 use Rattle.store.specs.declared.Made.{Made}
-use Rattle.store.specs.declared.Made.TheVariants.{Done, RoomOutside, AllotmentsOff, StoreShort}
+use Rattle.store.specs.declared.Made.TheVariants.{Done, RoomOutside, StoreShort}
 
--- the documents' number of each refusal, and 0 where the store was made
+-- document 01's number of each refusal, and 0 where the store was made
 abbrev pub refusal_of : Made → ℕ
 refusal_of Done = 0
 refusal_of RoomOutside = 17
-refusal_of AllotmentsOff = 21
 refusal_of StoreShort = 18
 
 -- "making with K outside 1 to 4,096"
 abbrev pub room_outside : ℕ → Bool
 room_outside K = ltb K 1 || ltb most_room K
 
--- "allotments that do not make K"
-abbrev pub allotments_off : ℕ → ℕ → ℕ → Bool
-allotments_off K first second = not (eqb (first + second) K)
-
 -- "making with too short a store", of n numbers
 abbrev pub store_short : ℕ → ℕ → Bool
 store_short K n = ltb n (store_size K)
 
--- where several apply: 21 "after 17 and before 18"
-abbrev pub made_of : ℕ → ℕ → ℕ → ℕ → Made
-made_of K first second n = cond (room_outside K) RoomOutside (cond (allotments_off K first second) AllotmentsOff (cond (store_short K n) StoreShort Done))
+-- where both apply, 17 goes first
+abbrev pub made_of : ℕ → ℕ → Made
+made_of K n = cond (room_outside K) RoomOutside (cond (store_short K n) StoreShort Done)
 
--- a making of room K, with an allotment for each school, of the numbers `before`, which answers and leaves `after`
-pub record Makes (K first second : ℕ) (before : List ℕ) (answer : Made) (after : List ℕ) : Type 0 where
-  pub answered : answer ≡ made_of K first second (length before)
+-- a making of room K with the numbers `before`, which answers and leaves `after`
+pub record Makes (K : ℕ) (before : List ℕ) (answer : Made) (after : List ℕ) : Type 0 where
+  pub answered : answer ≡ made_of K (length before)
   pub sound_after : answer ≡ Done → soundb after ≡ true
   -- "A new store has no open desk"
-  pub means : answer ≡ Done → meaning after ≡ new (record { first = first; second = second })
+  pub means : answer ≡ Done → meaning after ≡ new K
   -- "only the first that many are ever written"
   pub rest_kept : answer ≡ Done → drop (store_size K) after ≡ drop (store_size K) before
   pub length_kept : length after ≡ length before

@@ -1,19 +1,19 @@
 -- What the numbers of a store stand for: the room, and the sitting at each open desk. It names no place in the store and no number that is
 -- not in use. Assumes nothing.
-use Rattle.std.specs.Prelude.{◌≡◌, cond, ◌&&◌, List, [], ◌∷◌, ◌++◌, ℕ, min, ◌≤◌, ◌<◌, take, length, T, ltb}
-use Rattle.numbers.specs.Limits.{fewest_symbols, most_symbols, deepest, most_weight, longest, desks, schools, most_room}
+use Rattle.std.specs.Prelude.{◌≡◌, cond, ◌&&◌, List, [], ◌∷◌, ◌++◌, ℕ, ◌≤◌, ◌<◌, min, take, length, T, ltb}
+use Rattle.numbers.specs.Limits.{fewest_symbols, most_symbols, deepest, most_weight, longest, desks, most_room}
 use Rattle.numbers.specs.Sum.{sum}
 use Rattle.contexts.specs.Context.{is_context}
 use Rattle.contexts.specs.Keys.{key_of}
 use Rattle.contexts.specs.Sitting.{Sample, Sitting, Progress, total_in, contexts_held, sat}
 use Rattle.records.specs.Held.{count_at}
-use Rattle.replay.specs.Room.{size, Opening, Desk, closed, opened, Room, reserved, Allotted}
-use Rattle.store.specs.Layout.{making_in, is_open, symbols_at, depth_at, weight_at, school_at, reserve_at, size_at, slots_at, records_in}
+use Rattle.replay.specs.Room.{Opening, Desk, closed, opened, Room, reserved}
+use Rattle.store.specs.Layout.{room, is_open, symbols_at, depth_at, weight_at, reserve_at, size_at, slots_at, records_in}
 
 -- ---- the meaning
 
 abbrev pub opening_at : List ℕ → ℕ → Opening
-opening_at s d = record { symbols = symbols_at s d; depth = depth_at s d; weight = weight_at s d; school = school_at s d; reserve = reserve_at s d }
+opening_at s d = record { symbols = symbols_at s d; depth = depth_at s d; weight = weight_at s d; reserve = reserve_at s d }
 
 -- the lengths, the last up to D symbols, and the counts in the records of the desk's contexts
 abbrev pub progress_at : List ℕ → ℕ → Progress
@@ -31,18 +31,17 @@ abbrev pub desk_at : List ℕ → ℕ → Desk Progress
 desk_at s d = cond (ltb d desks && is_open s d) (opened (opening_at s d) (progress_at s d)) closed
 
 unfoldable pub meaning : List ℕ → Room Progress
-meaning s = record { made = making_in s; at = desk_at s }
+meaning s = record { made = room s; at = desk_at s }
 
 -- ---- what document 01 says of every meaning
 
 -- the sitting of an opening, with what it has so far
 pub record SittingFits (o : Opening) (p : Progress) : Type 0 where
-  -- "alphabet size A from 2 to 8", "depth D from 0 to 6", a weight "from 0 to 16", a school, 0 or 1, a reservation
+  -- "alphabet size A from 2 to 8", "depth D from 0 to 6", a weight "from 0 to 16", a reservation
   pub alphabet_fewest : fewest_symbols ≤ o.symbols
   pub alphabet_most : o.symbols ≤ most_symbols
   pub depth_most : o.depth ≤ deepest
   pub weight_most : o.weight ≤ most_weight
-  pub school_one : o.school < schools
   pub reserve_some : 1 ≤ o.reserve
   -- "0 to 2,048 symbols"
   pub sizes : (i : Sample) → p.size i ≤ longest
@@ -61,12 +60,10 @@ pub record SittingFits (o : Opening) (p : Progress) : Type 0 where
 
 pub record Fits (ρ : Room Progress) : Type 0 where
   -- "store room K from 1 to 4,096 contexts"
-  pub room_some : 1 ≤ size ρ.made
-  pub room_most : size ρ.made ≤ most_room
+  pub room_some : 1 ≤ ρ.made
+  pub room_most : ρ.made ≤ most_room
   -- "desks 0 to 7"
   pub eight_desks : (d : ℕ) → desks ≤ d → ρ.at d ≡ closed
   pub sittings : (d : ℕ) (o : Opening) (p : Progress) → ρ.at d ≡ opened o p → SittingFits o p
   -- "reservations add up to at most K"
-  pub reservations : sum desks (λ d. reserved (ρ.at d)) ≤ size ρ.made
-  -- document 02, E7: each school's to at most its allotment
-  pub allotted : Allotted ρ
+  pub reservations : sum desks (λ d. reserved (ρ.at d)) ≤ ρ.made

@@ -1,14 +1,13 @@
 -- What the soundness test promises, in document 01's words: each of its conditions by name, and what the test asks beyond them.
 -- Assumes nothing.
 use Rattle.std.specs.Prelude.{◌≡◌, List, [], ℕ, ◌+◌, ◌≤◌, ◌<◌, length, get_or, T}
-use Rattle.numbers.specs.Limits.{fewest_symbols, most_symbols, deepest, most_weight, longest, desks, schools, most_room}
+use Rattle.numbers.specs.Limits.{fewest_symbols, most_symbols, deepest, most_weight, longest, desks, most_room}
 use Rattle.numbers.specs.Sum.{sum}
 use Rattle.contexts.specs.Context.{is_context, begins}
 use Rattle.contexts.specs.Keys.{key_of}
 use Rattle.contexts.specs.Sitting.{Sample, first, second}
 use Rattle.records.specs.Records.{key, lookup, count_of}
-use Rattle.replay.specs.Room.{allotment}
-use Rattle.store.specs.Layout.{store_size, room, used, first_allotment, making_in, is_open, symbols_at, depth_at, weight_at, school_at, reserve_at, size_at, slots_at, records_in, total_of}
+use Rattle.store.specs.Layout.{store_size, room, used, is_open, symbols_at, depth_at, weight_at, reserve_at, size_at, slots_at, records_in, total_of}
 use Rattle.store.specs.Sound.{held_by, reserved_at}
 
 -- desk d is one of the eight and open
@@ -54,11 +53,8 @@ pub record Sound (s : List ℕ) : Type 0 where
   pub symbols : (d : ℕ) → Open s d → (i : Sample) (j : ℕ) → j < deepest → get_or (slots_at s d i) j 0 < symbols_at s d
   -- document 02, E5: "each open sitting's weight is within its limits"
   pub weight : (d : ℕ) → Open s d → weight_at s d ≤ most_weight
-  -- document 02, E7: two allotments, "which together make K"; each open sitting is for one of the schools
-  pub allotments : first_allotment s ≤ room s
-  pub school : (d : ℕ) → Open s d → school_at s d < schools
-  -- "reservations add up to at most K": each school's to at most its allotment
-  pub reservations : (w : ℕ) → w < schools → sum desks (reserved_at s w) ≤ allotment (making_in s) w
+  -- "reservations add up to at most K"
+  pub reservations : sum desks (reserved_at s) ≤ room s
   -- "no sitting holds more contexts than it reserved"
   pub reserved_held : (d : ℕ) → Open s d → held_by d (records_in s) ≤ reserve_at s d
   -- "no context is held twice"

@@ -1,7 +1,7 @@
 -- The soundness test: a test of the store's numbers, made of one test for each desk and one for each record. It reads the header and the
 -- records in use, and finds the record of a shorter context by its key. Assumes nothing.
 use Rattle.std.specs.Prelude.{Bool, true, cond, ◌&&◌, ◌||◌, List, ℕ, ◌+◌, get_or, length, leb, ltb, eqb}
-use Rattle.numbers.specs.Limits.{fewest_symbols, most_symbols, deepest, most_weight, longest, desks, schools, most_room}
+use Rattle.numbers.specs.Limits.{fewest_symbols, most_symbols, deepest, most_weight, longest, desks, most_room}
 use Rattle.numbers.specs.Sum.{sum}
 use Rattle.numbers.specs.Every.{every, all}
 use Rattle.contexts.specs.Context.{is_context, parent_of}
@@ -9,8 +9,7 @@ use Rattle.contexts.specs.Keys.{key_of, desk_of, context_of}
 use Rattle.contexts.specs.Sitting.{Sample, first, second, sum_of}
 use Rattle.records.specs.Records.{key, keys, counts_of, rises, lookup}
 use Rattle.records.specs.Held.{keep, of_desk}
-use Rattle.replay.specs.Room.{allotment}
-use Rattle.store.specs.Layout.{store_size, room, used, first_allotment, making_in, is_open, symbols_at, depth_at, weight_at, school_at, reserve_at, size_at, slots_at, records_in, total_of}
+use Rattle.store.specs.Layout.{store_size, room, used, is_open, symbols_at, depth_at, weight_at, reserve_at, size_at, slots_at, records_in, total_of}
 
 -- both samples pass
 abbrev pub each_sample : (Sample → Bool) → Bool
@@ -18,22 +17,21 @@ each_sample f = f first && f second
 
 -- ---- the store's size
 
--- K is within its limits, the numbers are enough for it, and neither the records nor school 0's allotment are more than that
+-- K is within its limits, the numbers are enough for it, and there are no more records than that
 unfoldable pub frame_ok : List ℕ → Bool
-frame_ok s = leb 1 (room s) && (leb (room s) most_room && (leb (store_size (room s)) (length s) && (leb (used s) (room s) && leb (first_allotment s) (room s))))
+frame_ok s = leb 1 (room s) && (leb (room s) most_room && (leb (store_size (room s)) (length s) && leb (used s) (room s)))
 
 -- ---- a desk
 
--- A, D, the weight, the school, the reservation and the lengths are within their limits
+-- A, D, the weight, the reservation and the lengths are within their limits
 unfoldable pub limits_ok : List ℕ → ℕ → Bool
 limits_ok s d =
     leb fewest_symbols (symbols_at s d)
     && (leb (symbols_at s d) most_symbols
     && (leb (depth_at s d) deepest
     && (leb (weight_at s d) most_weight
-    && (ltb (school_at s d) schools
     && (leb 1 (reserve_at s d)
-    && each_sample (λ i. leb (size_at s d i) longest))))))
+    && each_sample (λ i. leb (size_at s d i) longest)))))
 
 -- a symbol is of the alphabet
 abbrev pub of_alphabet : ℕ → ℕ → Bool
@@ -54,13 +52,9 @@ held_by d rs = length (keep (of_desk d) rs)
 abbrev pub desk_ok : List ℕ → List (List ℕ) → ℕ → Bool
 desk_ok s rs d = desk_test s d (held_by d rs)
 
--- what a desk has reserved for school w
-abbrev pub reserved_at : List ℕ → ℕ → ℕ → ℕ
-reserved_at s w d = cond (is_open s d) (cond (eqb (school_at s d) w) (reserve_at s d) 0) 0
-
--- a school's reservations add up to at most its allotment
-abbrev pub school_ok : List ℕ → ℕ → Bool
-school_ok s w = leb (sum desks (reserved_at s w)) (allotment (making_in s) w)
+-- what a desk has reserved
+abbrev pub reserved_at : List ℕ → ℕ → ℕ
+reserved_at s d = cond (is_open s d) (reserve_at s d) 0
 
 -- ---- a record
 
@@ -109,4 +103,4 @@ unfoldable pub soundb : List ℕ → Bool
 soundb s =
     frame_ok s
     && ((records_ok s (records_in s) && every desks (desk_ok s (records_in s)))
-    && every schools (school_ok s))
+    && leb (sum desks (reserved_at s)) (room s))

@@ -3,22 +3,20 @@ ghost use Rattle.std.specs.Prelude.{◌≡◌, ◌≤◌, ◌<◌, length};
 ghost use Rattle.numbers.specs.Limits.{desks};
 ghost use Rattle.store.specs.Layout.{header_size, field};
 
-// The header, and in it K, the number of records in use and school 0's allotment.
+// The header, and in it K and the number of records in use.
 pub const HEADER: usize = 2048;
 
 pub const ROOM: usize = 0;
 
 pub const USED: usize = 1;
 
-pub const FIRST_ALLOTMENT: usize = 2;
-
-// A desk's numbers: open or not, A, D, the weight, the school, the reservation, the lengths, the recent symbols.
+// A desk's numbers: open or not, A, D, the weight, the reservation, the lengths, the recent symbols.
 pub const FIRST_DESK: usize = 16;
 
 pub const DESK_SIZE: usize = 32;
 
 // How many of them are in use.
-pub const DESK_NUMBERS: usize = 20;
+pub const DESK_NUMBERS: usize = 19;
 
 pub const OPEN: usize = 0;
 
@@ -28,17 +26,15 @@ pub const DEPTH: usize = 2;
 
 pub const WEIGHT: usize = 3;
 
-pub const SCHOOL: usize = 4;
+pub const RESERVE: usize = 4;
 
-pub const RESERVE: usize = 5;
+pub const SIZE_FIRST: usize = 5;
 
-pub const SIZE_FIRST: usize = 6;
+pub const SIZE_SECOND: usize = 6;
 
-pub const SIZE_SECOND: usize = 7;
+pub const RECENT_FIRST: usize = 7;
 
-pub const RECENT_FIRST: usize = 8;
-
-pub const RECENT_SECOND: usize = 14;
+pub const RECENT_SECOND: usize = 13;
 
 pub const SLOTS: usize = 6;
 

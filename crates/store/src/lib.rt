@@ -4,22 +4,21 @@ pub mod layout;
 ghost use Rattle.std.specs.Prelude.{◌≡◌, length, replicate};
 ghost use Rattle.store.specs.Making.{Makes};
 
-use layout::{FIRST_ALLOTMENT, HEADER, ROOM};
+use layout::{HEADER, ROOM};
 use numbers::MOST_ROOM;
 use records::WIDTH;
 
-// What a making answers. `refusal_of` of specs/Making.antt has the documents' number of each.
+// What a making answers. `refusal_of` of specs/Making.antt has document 01's number of each.
 #[derive(Drop)]
 pub enum Made {
     Done,
     RoomOutside,
-    AllotmentsOff,
     StoreShort,
 }
 
-// Makes a store for `room` contexts of the numbers lent, whatever they are: `first` for school 0 and `second` for school 1.
-pub fn make(store: &mut [u32], room: u32, first: u32, second: u32) -> Made
-    ensures { Makes room first second store.old result store.new }
+// Makes a store for `room` contexts of the numbers lent, whatever they are.
+pub fn make(store: &mut [u32], room: u32) -> Made
+    ensures { Makes room store.old result store.new }
 {
     let many = room as usize;
     if many < 1 {
@@ -28,15 +27,11 @@ pub fn make(store: &mut [u32], room: u32, first: u32, second: u32) -> Made
     if MOST_ROOM < many {
         return Made::RoomOutside;
     }
-    if first as u64 + second as u64 != room as u64 {
-        return Made::AllotmentsOff;
-    }
     if store.len() < HEADER + WIDTH * many {
         return Made::StoreShort;
     }
     clear(&mut store[..HEADER]);
     store[ROOM] = room;
-    store[FIRST_ALLOTMENT] = first;
     Made::Done
 }
 

@@ -38,13 +38,12 @@ use Rattle.told.specs.Told.{MakeTold, MoveTold, RunTold, RoomTold, ReportTold, R
 use Rattle.told.proofs.Numbers.{fault_above_zero, writing_above_zero, not_refused}
 
 -- ---- a making
-pub made_accepted : {K first second : ℕ} {s t : List ℕ} → MakeTold K first second s 0 t → Makes K first second s making.Done t
-made_accepted {K} {first} {second} {s} {t} m = go m.answer m.promise m.number
+pub made_accepted : {K : ℕ} {s t : List ℕ} → MakeTold K s 0 t → Makes K s making.Done t
+made_accepted {K} {s} {t} m = go m.answer m.promise m.number
   where
-    go : (x : Made) → Makes K first second s x t → 0 ≡ refusal_of x → Makes K first second s making.Done t
+    go : (x : Made) → Makes K s x t → 0 ≡ refusal_of x → Makes K s making.Done t
     go making.Done p e = p
     go making.RoomOutside p e = absurd (omega (arith, e))
-    go making.AllotmentsOff p e = absurd (omega (arith, e))
     go making.StoreShort p e = absurd (omega (arith, e))
 
 -- ---- an opening, a feed or a closing
@@ -66,12 +65,12 @@ module _ {s t symbols : List ℕ} {d k r : ℕ} where
       go (ending.Refused why) p e = not_refused why e
 
 -- ---- the room question
-module _ {s : List ℕ} {school old left : ℕ} where
-  pub room_accepted : RoomTold s school 0 old left → Asks s (room_question school) (answered (contexts_left left))
+module _ {s : List ℕ} {old left : ℕ} where
+  pub room_accepted : RoomTold s 0 old left → Asks s room_question (answered (contexts_left left))
   room_accepted m = go m.answer m.promise m.number m.output
     where
-      go : (x : RoomLeft) → Asks s (room_question school) (room_of x) → 0 ≡ told_as (room_of x) → left ≡ left_after x old → Asks s (room_question school) (answered (contexts_left left))
-      go (question.Contexts n) p e o = subst (λ (k : ℕ). Asks s (room_question school) (answered (contexts_left k))) (sym o) p
+      go : (x : RoomLeft) → Asks s room_question (room_of x) → 0 ≡ told_as (room_of x) → left ≡ left_after x old → Asks s room_question (answered (contexts_left left))
+      go (question.Contexts n) p e o = subst (λ (k : ℕ). Asks s room_question (answered (contexts_left k))) (sym o) p
       go (question.Refused why) p e o = not_refused why e
 
 -- ---- a report

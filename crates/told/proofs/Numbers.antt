@@ -5,7 +5,7 @@ use native.Mathlib.Omega.{arith}
 use Rattle.replay.specs.Table.{Outcome, refused, answered}
 use Rattle.calls.specs.Refusals.{refusal_number}
 use Rattle.calls.specs.declared.Refusal.{Refusal}
-use Rattle.calls.specs.declared.Refusal.TheVariants.{Unsound, NoSuchDesk, AlreadyOpen, NotOpen, OutsideLimits, BadReservation, NotOfSitting, SampleFull, PastReservation, SampleEmpty, SheetShort, WeightOutside, NoSuchSchool, AboveAllotment, SampleShort}
+use Rattle.calls.specs.declared.Refusal.TheVariants.{Unsound, NoSuchDesk, AlreadyOpen, NotOpen, OutsideLimits, BadReservation, NoRoom, NotOfSitting, SampleFull, PastReservation, SampleEmpty, SheetShort, WeightOutside, SampleShort}
 use Rattle.sitting_file.specs.Format as format
 use Rattle.sitting_file.specs.declared.Refusal as file
 use Rattle.sitting_file.specs.declared.Refusal.TheVariants as fault
@@ -22,14 +22,13 @@ above_zero AlreadyOpen = omega arith
 above_zero NotOpen = omega arith
 above_zero OutsideLimits = omega arith
 above_zero BadReservation = omega arith
+above_zero NoRoom = omega arith
 above_zero NotOfSitting = omega arith
 above_zero SampleFull = omega arith
 above_zero PastReservation = omega arith
 above_zero SampleEmpty = omega arith
 above_zero SheetShort = omega arith
 above_zero WeightOutside = omega arith
-above_zero NoSuchSchool = omega arith
-above_zero AboveAllotment = omega arith
 above_zero SampleShort = omega arith
 
 pub fault_above_zero : (why : file.Refusal) → 0 < format.refusalNumber why

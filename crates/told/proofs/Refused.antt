@@ -38,13 +38,13 @@ module _ {s t symbols : List ℕ} {d k r : ℕ} where
   run_refused {n} m = subst (λ (o : Outcome Answer). Runs s d k symbols r o t) (refused_by (ending_of m.ending) n m.number) m.promise
 
 -- ---- the room question
-module _ {s : List ℕ} {school old left : ℕ} where
-  pub room_refused : {n : ℕ} → RoomTold s school (suc n) old left → Asks s (room_question school) (refused (suc n)) × (left ≡ old)
+module _ {s : List ℕ} {old left : ℕ} where
+  pub room_refused : {n : ℕ} → RoomTold s (suc n) old left → Asks s room_question (refused (suc n)) × (left ≡ old)
   room_refused {n} m = go m.answer m.promise m.number m.output
     where
-      go : (x : RoomLeft) → Asks s (room_question school) (room_of x) → suc n ≡ told_as (room_of x) → left ≡ left_after x old → Asks s (room_question school) (refused (suc n)) × (left ≡ old)
+      go : (x : RoomLeft) → Asks s room_question (room_of x) → suc n ≡ told_as (room_of x) → left ≡ left_after x old → Asks s room_question (refused (suc n)) × (left ≡ old)
       go (question.Contexts k) p e o = absurd (omega (arith, e))
-      go (question.Refused why) p e o = (subst (λ (k : ℕ). Asks s (room_question school) (refused k)) (sym e) p, o)
+      go (question.Refused why) p e o = (subst (λ (k : ℕ). Asks s room_question (refused k)) (sym e) p, o)
 
 -- ---- a report
 module _ {s : List ℕ} {d place : ℕ} {before after : List ℕ} {old rows : ℕ} {was score : ℤ} where

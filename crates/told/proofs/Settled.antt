@@ -96,9 +96,9 @@ gap_from (asked.Refused why) old = refl
 both : {B : Type 0} (f : Answer → B → B) (old : B) {o p : Outcome Answer} {x y x' y' : B} → o ≡ p → x ≡ x' → x' ≡ from f o old → y ≡ y' → y' ≡ from f p old → x ≡ y
 both f old e a b c d = a ∙ b ∙ ap (λ (o : Outcome Answer). from f o old) e ∙ sym (c ∙ d)
 
-pub room_one : {s : List ℕ} {school r q old x y : ℕ} → RoomTold s school r old x → RoomTold s school q old y → (r ≡ q) × (x ≡ y)
-room_one {s} {school} {r} {q} {old} m n =
-    let e = asks_settled s (room_question school) (room_of m.answer) (room_of n.answer) m.promise n.promise in
+pub room_one : {s : List ℕ} {r q old x y : ℕ} → RoomTold s r old x → RoomTold s q old y → (r ≡ q) × (x ≡ y)
+room_one {s} {r} {q} {old} m n =
+    let e = asks_settled s room_question (room_of m.answer) (room_of n.answer) m.promise n.promise in
     (m.number ∙ ap told_as e ∙ sym n.number, both left_in old e m.output (left_from m.answer old) n.output (left_from n.answer old))
 
 -- a report has one number, one sheet, one row count and one score

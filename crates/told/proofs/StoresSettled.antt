@@ -13,9 +13,9 @@ use Rattle.told.specs.Codes.{told_as}
 use Rattle.told.specs.Told.{MakeTold, MoveTold, RunTold}
 
 -- THEOREM. Two makings told to C have one number, and the same store as far as any call can ask; refused: the same numbers
-pub make_one : {K first second : ℕ} {s : List ℕ} {r q : ℕ} {x y : List ℕ} (m : MakeTold K first second s r x) (n : MakeTold K first second s q y) → (r ≡ q) × SameMaking K m.answer n.answer x y
-make_one {K} {first} {second} {s} {r} {q} {x} {y} m n =
-    let same = make_settled K first second s m.answer n.answer x y m.promise n.promise in
+pub make_one : {K : ℕ} {s : List ℕ} {r q : ℕ} {x y : List ℕ} (m : MakeTold K s r x) (n : MakeTold K s q y) → (r ≡ q) × SameMaking K m.answer n.answer x y
+make_one {K} {s} {r} {q} {x} {y} m n =
+    let same = make_settled K s m.answer n.answer x y m.promise n.promise in
     (m.number ∙ ap refusal_of same.answers ∙ sym n.number, same)
 
 -- THEOREM. The same of two openings, feeds or closings

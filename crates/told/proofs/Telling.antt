@@ -32,8 +32,8 @@ use Rattle.told.specs.Outputs.{left_after, rows_after, score_after, shape_after,
 use Rattle.told.specs.Told.{RoomTold, ReportTold, ReadTold, WriteTold, ChartTold}
 
 -- ---- the room question
-module _ {s : List ℕ} {school old : ℕ} (x : RoomLeft) (p : Asks s (room_question school) (room_of x)) where
-  pub room_refused : {why : Refusal} {r : ℕ} → x ≡ question.Refused why → r ≡ refusal_number why → RoomTold s school r old old
+module _ {s : List ℕ} {old : ℕ} (x : RoomLeft) (p : Asks s room_question (room_of x)) where
+  pub room_refused : {why : Refusal} {r : ℕ} → x ≡ question.Refused why → r ≡ refusal_number why → RoomTold s r old old
   room_refused e n = record {
     answer = x;
     promise = p;
@@ -41,7 +41,7 @@ module _ {s : List ℕ} {school old : ℕ} (x : RoomLeft) (p : Asks s (room_ques
     output = sym (ap (λ (a : RoomLeft). left_after a old) e);
   }
 
-  pub room_told : {left : ℕ} → x ≡ question.Contexts left → RoomTold s school 0 old left
+  pub room_told : {left : ℕ} → x ≡ question.Contexts left → RoomTold s 0 old left
   room_told e = record {
     answer = x;
     promise = p;

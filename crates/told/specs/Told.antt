@@ -21,10 +21,10 @@ use Rattle.salvage.specs.Salvage.{Saved, Salvages}
 use Rattle.told.specs.Codes.{told_as, read_code}
 use Rattle.told.specs.Outputs.{left_after, rows_after, score_after, shape_after, length_after, size_after, losses_after, seen_after, first_after, second_after, gap_after}
 
--- a making of room K, with an allotment for each school, of the numbers `before`
-pub record MakeTold (K first second : ℕ) (before : List ℕ) (r : ℕ) (after : List ℕ) : Type 0 where
+-- a making of room K with the numbers `before`
+pub record MakeTold (K : ℕ) (before : List ℕ) (r : ℕ) (after : List ℕ) : Type 0 where
   pub answer : Made
-  pub promise : Makes K first second before answer after
+  pub promise : Makes K before answer after
   pub number : r ≡ refusal_of answer
 
 -- an opening, a feed or a closing
@@ -39,10 +39,10 @@ pub record RunTold (before : List ℕ) (d k : ℕ) (symbols : List ℕ) (r why :
   pub promise : Runs before d k symbols r (ending_of ending) after
   pub number : why ≡ told_as (ending_of ending)
 
--- the room question for a school
-pub record RoomTold (store : List ℕ) (school r left left' : ℕ) : Type 0 where
+-- the room question
+pub record RoomTold (store : List ℕ) (r left left' : ℕ) : Type 0 where
   pub answer : RoomLeft
-  pub promise : Asks store (room_question school) (room_of answer)
+  pub promise : Asks store room_question (room_of answer)
   pub number : r ≡ told_as (room_of answer)
   pub output : left' ≡ left_after answer left
 

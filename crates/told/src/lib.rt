@@ -24,7 +24,6 @@ pub fn making_code(made: Made) -> u32
     match made {
         Made::Done => 0,
         Made::RoomOutside => 17,
-        Made::AllotmentsOff => 21,
         Made::StoreShort => 18,
     }
 }

@@ -11,10 +11,10 @@ use Rattle.desks.proofs.lay_out.Statement.{statement}
 use Rattle.desks.proofs.lay_out.Tie as tie
 
 abbrev invariant-loop : tie.invariant-loop
-invariant-loop part₀ alphabet depth weight school reservation i₀ part i = (i ≤ desk_numbers) × (length part ≡ desk_numbers) × (part ≡ replicate i 0 ++ drop i part₀)
+invariant-loop part₀ alphabet depth weight reservation i₀ part i = (i ≤ desk_numbers) × (length part ≡ desk_numbers) × (part ≡ replicate i 0 ++ drop i part₀)
 
 abbrev decreases-loop : tie.decreases-loop
-decreases-loop part₀ alphabet depth weight school reservation i₀ part i = desk_numbers - i
+decreases-loop part₀ alphabet depth weight reservation i₀ part i = desk_numbers - i
 
 loop-holds : tie.Need-loop-init invariant-loop decreases-loop
 loop-holds c = (omega arith, c.requires, refl)
@@ -52,9 +52,6 @@ slice-write-part-5 c = simp length-set (omega arith)
 slice-write-part-6 : tie.Need-slice-write-part-6 invariant-loop decreases-loop
 slice-write-part-6 c = simp length-set (omega arith)
 
-slice-write-part-7 : tie.Need-slice-write-part-7 invariant-loop decreases-loop
-slice-write-part-7 c = simp length-set (omega arith)
-
 same_length : tie.Need-same-length invariant-loop decreases-loop
 same_length c = simp length-set (c.before.loop.invariant.1 ∙ sym c.before.before.requires)
 
@@ -62,7 +59,7 @@ returns : tie.Need-returns invariant-loop decreases-loop
 returns c =
     let at = c.before.loop in
     let x = c.before.before.args in
-    laid_out x.part.now at.part at.i x.alphabet x.depth x.weight x.school x.reservation c.before.before.requires c.loop-test.false at.invariant.0 at.invariant.2
+    laid_out x.part.now at.part at.i x.alphabet x.depth x.weight x.reservation c.before.before.requires c.loop-test.false at.invariant.0 at.invariant.2
 
 pub lay-out-spec : {M : Type 1} → statement M
 lay-out-spec =
@@ -81,6 +78,5 @@ lay-out-spec =
     slice-write-part-4
     slice-write-part-5
     slice-write-part-6
-    slice-write-part-7
     same_length
     returns)

@@ -7,17 +7,17 @@ use Rattle.desks.proofs.outside_limits.Tie as tie
 
 returns : tie.Need-returns
 unfolding outside_limits
-returns c weight school reserve = rw (lt-ltb c.before.args.alphabet fewest_symbols c.if1.true)
+returns c weight reserve = rw (lt-ltb c.before.args.alphabet fewest_symbols c.if1.true)
 
 returns-2 : tie.Need-returns-2
 unfolding outside_limits
-returns-2 c weight school reserve =
+returns-2 c weight reserve =
     let A = c.before.before.args.alphabet in
     rw (le-ltb A fewest_symbols c.before.if1.false, lt-ltb most_symbols A c.if2.true)
 
 returns-3 : tie.Need-returns-3
 unfolding outside_limits
-returns-3 c weight school reserve =
+returns-3 c weight reserve =
     let A = c.before.before.args.alphabet in
     rw (le-ltb A fewest_symbols c.before.if1.false, le-ltb most_symbols A c.if2.false)
 

@@ -37,7 +37,7 @@ returns c =
     let start = c.before.before.before.before.before in
     let x = start.args in
     let laid = c.before.before.lay-out in
-    opened_now x.store.now x.desk (naming x.alphabet x.depth x.weight x.school x.reservation) start.requires.0 start.requires.1 laid.new.0 laid.ensures
+    opened_now x.store.now x.desk (naming x.alphabet x.depth x.weight x.reservation) start.requires.0 start.requires.1 laid.new.0 laid.ensures
 
 pub set-up-spec : {M : Type 1} → statement M
 set-up-spec =

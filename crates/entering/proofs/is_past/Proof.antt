@@ -55,7 +55,7 @@ field-at-requires : tie.Need-field-at-requires
 field-at-requires c κs =
     let start = c.before.before.before.before.before.before.before in
     let x = start.args in
-    field_readable x.store.now start.requires.sound x.desk start.requires.at_open.desk 5 (omega arith)
+    field_readable x.store.now start.requires.sound x.desk start.requires.at_open.desk 4 (omega arith)
 
 cast-reserve : tie.Need-overflow-cast-reserve
 cast-reserve c = search rules

@@ -22,7 +22,7 @@ add-store c =
     let start = c.before.before in
     let x = start.args in
     let p = start.requires in
-    omega (arith, p.1, get_or-set_other x.store.now 1 x.size x.used 0 (λ e. omega (arith, p.0.past_allotment)))
+    omega (arith, p.1, get_or-set_other x.store.now 1 x.size x.used 0 (λ e. omega (arith, p.0.past_used)))
 
 mul-store-2 : tie.Need-overflow-mul-store-2
 mul-store-2 c = search rules

@@ -3,11 +3,11 @@ use mathlib.Core.Path.{ap}
 use Prim.Native.Nat.{ℕ, ◌≤◌, ◌<◌}
 use native.Mathlib.Omega.{arith}
 use borrow.Author.Rules.{rules}
-use borrow.Author.Tests.{le-leb, lt-leb, le-ltb, lt-ltb}
+use borrow.Author.Tests.{le-leb, lt-leb}
 use lib.Dec.{leb}
-use Rattle.numbers.specs.Limits.{fewest_symbols, most_symbols, deepest, most_weight, longest, schools}
+use Rattle.numbers.specs.Limits.{fewest_symbols, most_symbols, deepest, most_weight, longest}
 use Rattle.contexts.specs.Sitting.{first}
-use Rattle.store.specs.Layout.{symbols_at, depth_at, weight_at, school_at, reserve_at, size_at}
+use Rattle.store.specs.Layout.{symbols_at, depth_at, weight_at, reserve_at, size_at}
 use Rattle.store.specs.Sound.{limits_ok}
 use Rattle.soundness.proofs.limits_ok.Statement.{statement}
 use Rattle.soundness.proofs.limits_ok.Tie as tie
@@ -71,14 +71,8 @@ returns-5 c =
     let t1 : symbols_at s d ≤ most_symbols = omega arith in
     let t2 : depth_at s d ≤ deepest = omega arith in
     let t3 : weight_at s d ≤ most_weight = omega arith in
-    let t4 : schools ≤ school_at s d = omega arith in
-    rw (
-      le-leb fewest_symbols (symbols_at s d) t0,
-      le-leb (symbols_at s d) most_symbols t1,
-      le-leb (depth_at s d) deepest t2,
-      le-leb (weight_at s d) most_weight t3,
-      le-ltb (school_at s d) schools t4,
-    )
+    let t4 : reserve_at s d < 1 = omega arith in
+    rw (le-leb fewest_symbols (symbols_at s d) t0, le-leb (symbols_at s d) most_symbols t1, le-leb (depth_at s d) deepest t2, le-leb (weight_at s d) most_weight t3, lt-leb 1 (reserve_at s d) t4)
 
 field-at-requires-5 : tie.Need-field-at-requires-5
 field-at-requires-5 c κs = search rules
@@ -92,16 +86,9 @@ returns-6 c =
     let t1 : symbols_at s d ≤ most_symbols = omega arith in
     let t2 : depth_at s d ≤ deepest = omega arith in
     let t3 : weight_at s d ≤ most_weight = omega arith in
-    let t4 : school_at s d < schools = omega arith in
-    let t5 : reserve_at s d < 1 = omega arith in
-    rw (
-      le-leb fewest_symbols (symbols_at s d) t0,
-      le-leb (symbols_at s d) most_symbols t1,
-      le-leb (depth_at s d) deepest t2,
-      le-leb (weight_at s d) most_weight t3,
-      lt-ltb (school_at s d) schools t4,
-      lt-leb 1 (reserve_at s d) t5,
-    )
+    let t4 : 1 ≤ reserve_at s d = omega arith in
+    let t5 : longest < size_at s d first = omega arith in
+    rw (le-leb fewest_symbols (symbols_at s d) t0, le-leb (symbols_at s d) most_symbols t1, le-leb (depth_at s d) deepest t2, le-leb (weight_at s d) most_weight t3, le-leb 1 (reserve_at s d) t4, lt-leb (size_at s d first) longest t5)
 
 field-at-requires-6 : tie.Need-field-at-requires-6
 field-at-requires-6 c κs = search rules
@@ -109,49 +96,15 @@ field-at-requires-6 c κs = search rules
 returns-7 : tie.Need-returns-7
 unfolding limits_ok
 returns-7 c =
-    let s = c.before.before.before.before.before.before.before.before.before.before.before.before.before.before.args.store.now in
-    let d = c.before.before.before.before.before.before.before.before.before.before.before.before.before.before.args.desk in
+    let s = c.before.before.before.before.before.before.before.before.before.before.before.before.before.args.store.now in
+    let d = c.before.before.before.before.before.before.before.before.before.before.before.before.before.args.desk in
     let t0 : fewest_symbols ≤ symbols_at s d = omega arith in
     let t1 : symbols_at s d ≤ most_symbols = omega arith in
     let t2 : depth_at s d ≤ deepest = omega arith in
     let t3 : weight_at s d ≤ most_weight = omega arith in
-    let t4 : school_at s d < schools = omega arith in
-    let t5 : 1 ≤ reserve_at s d = omega arith in
-    let t6 : longest < size_at s d first = omega arith in
-    rw (
-      le-leb fewest_symbols (symbols_at s d) t0,
-      le-leb (symbols_at s d) most_symbols t1,
-      le-leb (depth_at s d) deepest t2,
-      le-leb (weight_at s d) most_weight t3,
-      lt-ltb (school_at s d) schools t4,
-      le-leb 1 (reserve_at s d) t5,
-      lt-leb (size_at s d first) longest t6,
-    )
-
-field-at-requires-7 : tie.Need-field-at-requires-7
-field-at-requires-7 c κs = search rules
-
-returns-8 : tie.Need-returns-8
-unfolding limits_ok
-returns-8 c =
-    let s = c.before.before.before.before.before.before.before.before.before.before.before.before.before.before.before.args.store.now in
-    let d = c.before.before.before.before.before.before.before.before.before.before.before.before.before.before.before.args.desk in
-    let t0 : fewest_symbols ≤ symbols_at s d = omega arith in
-    let t1 : symbols_at s d ≤ most_symbols = omega arith in
-    let t2 : depth_at s d ≤ deepest = omega arith in
-    let t3 : weight_at s d ≤ most_weight = omega arith in
-    let t4 : school_at s d < schools = omega arith in
-    let t5 : 1 ≤ reserve_at s d = omega arith in
-    let t6 : size_at s d first ≤ longest = omega arith in
-    rw (
-      le-leb fewest_symbols (symbols_at s d) t0,
-      le-leb (symbols_at s d) most_symbols t1,
-      le-leb (depth_at s d) deepest t2,
-      le-leb (weight_at s d) most_weight t3,
-      lt-ltb (school_at s d) schools t4,
-      le-leb 1 (reserve_at s d) t5,
-      le-leb (size_at s d first) longest t6,
-    ) (ap (λ (m : ℕ). leb m longest) c.field-at7.ensures)
+    let t4 : 1 ≤ reserve_at s d = omega arith in
+    let t5 : size_at s d first ≤ longest = omega arith in
+    rw (le-leb fewest_symbols (symbols_at s d) t0, le-leb (symbols_at s d) most_symbols t1, le-leb (depth_at s d) deepest t2, le-leb (weight_at s d) most_weight t3, le-leb 1 (reserve_at s d) t4, le-leb (size_at s d first) longest t5) (ap (λ (m : ℕ). leb m longest) c.field-at6.ensures)
 
 pub limits-ok-spec : {M : Type 1} → statement M
 limits-ok-spec =
@@ -169,6 +122,4 @@ limits-ok-spec =
     field-at-requires-5
     returns-6
     field-at-requires-6
-    returns-7
-    field-at-requires-7
-    returns-8)
+    returns-7)

@@ -1,4 +1,4 @@
--- `soundness::reserved` meets its contract: for each school the sum over the desks so far. Assumes nothing.
+-- `soundness::reserved` meets its contract: the sum over the desks so far. Assumes nothing.
 use mathlib.Core.Path.{◌≡◌, sym}
 use Prim.Native.Nat.{◌≤◌, ◌*◌, ◌-◌}
 use native.Mathlib.Omega.{arith}
@@ -12,29 +12,19 @@ use Rattle.soundness.proofs.reserved.Statement.{statement}
 use Rattle.soundness.proofs.reserved.Tie as tie
 
 abbrev invariant-loop : tie.invariant-loop
-invariant-loop store first₀ second₀ desk₀ first second desk =
-    (desk ≤ desks) × (header_size ≤ length store) × (first ≤ 4294967296 * desk) × (second ≤ 4294967296 * desk)
-    × (first ≡ sum desk (reserved_at store 0)) × (second ≡ sum desk (reserved_at store 1))
+invariant-loop store sum₀ desk₀ sum desk = (desk ≤ desks) × (header_size ≤ length store) × (sum ≤ 4294967296 * desk) × (sum ≡ Rattle.numbers.specs.Sum.sum desk (reserved_at store))
 
 abbrev decreases-loop : tie.decreases-loop
-decreases-loop store first₀ second₀ desk₀ first second desk = desks - desk
+decreases-loop store sum₀ desk₀ sum desk = desks - desk
 
 loop-holds : tie.Need-loop-init invariant-loop decreases-loop
-loop-holds c =
-    let s = c.before.args.store.now in
-    (omega arith, omega arith, omega arith, omega arith, sym (sum_none (reserved_at s 0)), sym (sum_none (reserved_at s 1)))
+loop-holds c = (omega arith, omega arith, omega arith, sym (sum_none (reserved_at c.before.args.store.now)))
 
 reserved-at-requires : tie.Need-reserved-at-requires invariant-loop decreases-loop
 reserved-at-requires c κs = omega arith
 
-add-first : tie.Need-overflow-add-first invariant-loop decreases-loop
-add-first c = omega arith
-
-reserved-at-requires-2 : tie.Need-reserved-at-requires-2 invariant-loop decreases-loop
-reserved-at-requires-2 c κs = omega arith
-
-add-second : tie.Need-overflow-add-second invariant-loop decreases-loop
-add-second c = omega arith
+add-sum : tie.Need-overflow-add-sum invariant-loop decreases-loop
+add-sum c = omega arith
 
 add-desk : tie.Need-overflow-add-desk invariant-loop decreases-loop
 add-desk c = omega arith
@@ -44,16 +34,14 @@ loop-less c = omega arith
 
 loop-again : tie.Need-loop-preserved invariant-loop decreases-loop
 loop-again c =
-    let s = c.before.before.before.before.before.args.store.now in
-    let desk = c.before.before.before.loop.desk in
-    let one = sum_next desk (reserved_at s 0) in
-    let two = sum_next desk (reserved_at s 1) in
+    let s = c.before.before.before.before.args.store.now in
+    let step = sum_next c.before.before.loop.desk (reserved_at s) in
     omega arith
 
 returns : tie.Need-returns invariant-loop decreases-loop
 returns c =
     let done : c.before.loop.desk ≡ desks = omega arith in
-    rw (← done) (c.before.loop.invariant.4, c.before.loop.invariant.5)
+    rw (← done) c.before.loop.invariant.3
 
 pub reserved-spec : {M : Type 1} → statement M
 reserved-spec =
@@ -63,9 +51,7 @@ reserved-spec =
     decreases-loop
     loop-holds
     reserved-at-requires
-    add-first
-    reserved-at-requires-2
-    add-second
+    add-sum
     add-desk
     loop-less
     loop-again
