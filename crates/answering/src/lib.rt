@@ -1,4 +1,6 @@
 // The answer to a sitting file: it is read, sat at desk 0 of a new store, and reported on.
+#![tactic(auto)]
+
 ghost use Rattle.std.specs.Prelude.{◌≡◌, true, ◌≤◌, length};
 ghost use Rattle.store.specs.Layout.{store_size};
 ghost use Rattle.store.specs.Sound.{soundb};

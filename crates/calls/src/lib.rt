@@ -1,11 +1,13 @@
 // What a call at a store answers: that it was done, or a refusal as a case of an enum.
+#![tactic(auto)]
+
 ghost use Rattle.std.specs.Prelude.{◌≡◌};
 ghost use Rattle.calls.specs.Refusals.{refusal_number};
 
 use chart::Chart;
 
 // The refusals of documents 01 and 02 that a call at a store can get.
-#[derive(Drop)]
+#[derive(Clone, Copy)]
 pub enum Refusal {
     Unsound,
     NoSuchDesk,
@@ -24,42 +26,42 @@ pub enum Refusal {
 }
 
 // The answer of an opening, a feed or a closing.
-#[derive(Drop)]
+#[derive(Clone, Copy)]
 pub enum Verdict {
     Done,
     Refused(Refusal),
 }
 
 // The answer of the room question.
-#[derive(Drop)]
+#[derive(Clone, Copy)]
 pub enum RoomLeft {
     Contexts(u32),
     Refused(Refusal),
 }
 
 // The answer of a report: the row count and the score. The rows are on the sheet.
-#[derive(Drop)]
+#[derive(Clone, Copy)]
 pub enum ReportAnswer {
     Rows(u32, i64),
     Refused(Refusal),
 }
 
 // The answer of a chart question.
-#[derive(Drop)]
+#[derive(Clone, Copy)]
 pub enum ChartAnswer {
     Answered(Chart),
     Refused(Refusal),
 }
 
 // How a run of feeds ended: with the whole sample, or with the refusal that the next feed got.
-#[derive(Drop)]
+#[derive(Clone, Copy)]
 pub enum Ending {
     Whole,
     Refused(Refusal),
 }
 
 // The answer of a run of feeds: how many were accepted, and how it ended.
-#[derive(Drop)]
+#[derive(Clone, Copy)]
 pub struct Fed {
     pub accepted: usize,
     pub ending: Ending,

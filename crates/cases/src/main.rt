@@ -1,4 +1,6 @@
 // Prints the program's answer to each file that its arguments name, one after the other.
+#![tactic(auto)]
+
 use libc::STDOUT_FILENO;
 use printing::TEXT_BYTES;
 use sitting_file::INPUT_BYTES;

@@ -1,4 +1,6 @@
 // The chart answer from the counts of one context: a symbol's share in each sample, and their gap.
+#![tactic(auto)]
+
 ghost use Rattle.std.specs.Prelude.{◌≡◌, ◌≤◌};
 ghost use Rattle.numbers.specs.Limits.{most_counted};
 ghost use Rattle.contexts.specs.Sitting.{sum_of};
@@ -6,7 +8,7 @@ ghost use Rattle.chart.specs.Share.{share};
 ghost use Rattle.chart.specs.Answer.{point_of, answer, chart_in, Chartable};
 
 // The two shares, and the first less the second, rounded once.
-#[derive(Drop)]
+#[derive(Clone, Copy)]
 pub struct Point {
     pub first: f64,
     pub second: f64,
@@ -14,7 +16,7 @@ pub struct Point {
 }
 
 // What the samples that saw the context say of the symbol.
-#[derive(Drop)]
+#[derive(Clone, Copy)]
 pub enum Chart {
     Neither,
     First(f64),

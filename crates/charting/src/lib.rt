@@ -1,4 +1,6 @@
 // The chart question at a desk of a store: a symbol's share in the context that a length and a code name.
+#![tactic(auto)]
+
 ghost use Rattle.std.specs.Prelude.{◌≡◌, ◌-◌, ◌^◌, ◌≤◌, ◌<◌};
 ghost use Rattle.numbers.specs.Limits.{deepest, desks};
 ghost use Rattle.records.specs.Records.{lookup};
@@ -20,7 +22,7 @@ use soundness::sound;
 use store::layout::{DEPTH, HEADER, OPEN, SYMBOLS, USED, field_at};
 
 // What a length and a code name: the key of a desk's context, or no context over its alphabet.
-#[derive(Drop)]
+#[derive(Clone, Copy)]
 enum Named {
     Key(u32),
     NoContext,

@@ -1,4 +1,6 @@
 // Opening and closing a desk, and the room question.
+#![tactic(auto)]
+
 ghost use Rattle.std.specs.Prelude.{◌≡◌, true, ℕ, ◌≤◌, ◌<◌, length};
 ghost use Rattle.numbers.specs.Limits.{desks};
 ghost use Rattle.replay.specs.Machine.{opening, closing, at_desk, room_question, outside_limits};

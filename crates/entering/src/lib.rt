@@ -1,5 +1,7 @@
 // A feed entered into a store: whether its place is counted, the symbols that it follows, where its contexts stand, whether those missing pass the
 // reservation, its records and its header.
+#![tactic(auto)]
+
 ghost use Rattle.std.specs.Prelude.{◌≡◌, true, false, ◌+◌, ◌-◌, ◌≤◌, ◌<◌, ltb, length, take, drop, get_or};
 ghost use Rattle.numbers.specs.Limits.{deepest, longest, desks};
 ghost use Rattle.contexts.specs.Sitting.{sample_of};
@@ -21,7 +23,7 @@ use store::layout::{
 };
 
 // The symbols of a sample that a counted one follows, most recent first: the first `many` of six.
-#[derive(Drop)]
+#[derive(Clone, Copy)]
 pub struct Latest {
     pub symbols: [u32; 6],
     pub many: usize,

@@ -1,5 +1,7 @@
 // What a context costs and loses as one of each kind. A loss is a cost less a fit, and never below 0.
 // `logs` is what `logarithm::logs` gave, lent by the caller and only handed on to `logarithm::log_at`.
+#![tactic(auto)]
+
 ghost use Rattle.std.specs.Prelude.{◌≡◌, ◌+◌, ◌*◌, ◌-◌, ◌≤◌, ◌<◌};
 ghost use Rattle.numbers.specs.Limits.{most_symbols, most_weight, most_counted, top_log};
 ghost use Rattle.logarithm.specs.Logarithm.{L};
@@ -14,7 +16,7 @@ ghost use Rattle.estimate.specs.Adding.{SumsOf, Addable, SumsAnd};
 const FIT_TIMES: u64 = 8;
 
 // A number for each kind of context: shared, the first's own, the second's own.
-#[derive(Drop)]
+#[derive(Clone, Copy)]
 pub struct ByKind {
     pub shared: u64,
     pub first: u64,
@@ -89,8 +91,8 @@ fn spread_of(logs: &[u32], total: u32, terms: u64) -> u64
     FIT_TIMES * (term_of(logs, total) - terms)
 }
 
-// What the counts of a context add up to in each sample, and what their terms typeof.c.L(c) do: of each sample, and of both together.
-#[derive(Drop)]
+// What the counts of a context add up to in each sample, and what their terms c·L(c) do: of each sample, and of both together.
+#[derive(Clone, Copy)]
 pub struct Sums {
     pub first: u32,
     pub second: u32,

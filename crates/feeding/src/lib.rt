@@ -1,4 +1,6 @@
 // Feeding at a store: one symbol, and a run of them after one soundness test.
+#![tactic(auto)]
+
 ghost use Rattle.std.specs.Prelude.{◌≡◌, true};
 ghost use Rattle.contexts.specs.Sitting.{sample_of};
 ghost use Rattle.replay.specs.Machine.{at_desk, asking};

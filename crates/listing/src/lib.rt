@@ -1,5 +1,7 @@
 // The rows of a desk's report, listed from the root to the leaves by the decisions that a weighing kept beside the records.
 // `logs` is what `logarithm::logs` gave, lent by the caller and only handed on to `estimate`.
+#![tactic(auto)]
+
 ghost use Rattle.std.specs.Prelude.{◌≡◌, not, ◌&&◌, ◌≤◌, length};
 ghost use Rattle.contexts.specs.Keys.{context_of};
 ghost use Rattle.logarithm.specs.Table.{AreLogs};
@@ -44,7 +46,7 @@ pub fn write_rows(
 }
 
 // Which members are wanted at a context and below it: those of both trees together, or those of the own trees that still go on.
-#[derive(Drop)]
+#[derive(Clone, Copy)]
 pub struct Way {
     pub joint: bool,
     pub first: bool,
@@ -52,7 +54,7 @@ pub struct Way {
 }
 
 // Which rows stand at a context, and what is wanted of its children.
-#[derive(Drop)]
+#[derive(Clone, Copy)]
 pub struct Plan {
     pub shared: bool,
     pub first: bool,
@@ -61,7 +63,7 @@ pub struct Plan {
 }
 
 // A context with its code, 8 to the power of its length, and what is wanted of it.
-#[derive(Drop)]
+#[derive(Clone, Copy)]
 pub struct Spot {
     pub key: u32,
     pub span: u32,
@@ -72,7 +74,7 @@ pub struct Spot {
 }
 
 // What is wanted of the children, and the next number of the sheet.
-#[derive(Drop)]
+#[derive(Clone, Copy)]
 pub struct Step {
     pub way: Way,
     pub to: usize,

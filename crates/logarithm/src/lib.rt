@@ -1,5 +1,7 @@
 // The logarithm of document 01: base 2, in 1,024ths, rounded down. It is worked out by squaring; no table of it is kept.
 // `logs` and `log_at` are the only doors to it: above, what the one gives is lent to the other, and nothing is known of it but `AreLogs`.
+#![tactic(auto)]
+
 ghost use Rattle.std.specs.Prelude.{◌≡◌, ◌≤◌, length};
 ghost use Rattle.numbers.specs.Limits.{most_counted};
 ghost use Rattle.logarithm.specs.Logarithm.{L};

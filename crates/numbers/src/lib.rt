@@ -1,4 +1,5 @@
 // Tests, orders and sums of whole numbers: definitions and laws that the other crates cite; and document 01's limits, as the code names them.
+#![tactic(auto)]
 
 // A is from 2 to 8.
 pub const FEWEST_SYMBOLS: u32 = 2;

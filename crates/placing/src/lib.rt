@@ -1,4 +1,6 @@
 // Bytes put into lent bytes at a place, one piece after another.
+#![tactic(auto)]
+
 ghost use Rattle.std.specs.Prelude.{[], ◌∷◌};
 ghost use Rattle.placing.specs.Placing.{HasRoom, Puts};
 

@@ -1,4 +1,6 @@
 // Plays a script of store calls from standard input and prints every answer. reference/README.md has the language.
+#![tactic(auto)]
+
 mod answers;
 mod play;
 mod scan;

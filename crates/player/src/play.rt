@@ -9,7 +9,7 @@ use feeding::{feed, feed_all};
 use store::{Made, make};
 
 // Where the script goes on, and how many numbers its next calls lend.
-#[derive(Drop)]
+#[derive(Clone, Copy)]
 struct Step {
     next: usize,
     lent: usize,

@@ -1,4 +1,6 @@
 // What the program prints, as text put into lent bytes.
+#![tactic(auto)]
+
 ghost use Rattle.std.specs.Prelude.{◌≡◌, [], ◌∷◌, ◌++◌, map, ◌+◌, ◌≤◌, ◌<◌, pos, nat_abs, length};
 ghost use Rattle.printing.specs.Text.{decimal, line_of, head_text, row_text, rows_text, report_text, refusal_text};
 ghost use Rattle.printing.specs.Text.{digit as Text·digit, signed as Text·signed};
@@ -10,7 +12,7 @@ use numbers::ROW_WIDTH;
 use placing::{put_byte, put_bytes};
 
 // The numbers of a report's first line: A, D, n, m, the row count and the score.
-#[derive(Drop)]
+#[derive(Clone, Copy)]
 pub struct Head {
     pub alphabet: u32,
     pub depth: u32,

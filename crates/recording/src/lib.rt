@@ -1,4 +1,6 @@
 // The records of a store written: one more for each context that a counted symbol follows, and none of a desk that closes.
+#![tactic(auto)]
+
 ghost use Rattle.std.specs.Prelude.{◌≡◌, ◌++◌, ◌+◌, ◌-◌, ◌*◌, ◌%◌, ◌≤◌, ◌<◌, length, take, drop, get_or};
 ghost use Rattle.numbers.specs.Limits.{most_symbols, longest};
 ghost use Rattle.contexts.specs.Sitting.{sample_of};

@@ -1,4 +1,6 @@
 // The records of a store: one dense run of records of 24 numbers, strictly rising in key. Read and found here.
+#![tactic(auto)]
+
 ghost use Rattle.std.specs.Prelude.{◌≡◌, ◌+◌, ◌*◌, ◌^◌, ◌≤◌, ◌<◌, length, take, drop, get_or};
 ghost use Rattle.numbers.specs.Limits.{most_symbols};
 ghost use Rattle.records.specs.Records.{width, records, lookup};
@@ -20,14 +22,14 @@ pub const NEWEST: u32 = 262144;
 
 // Where the contexts that a symbol follows stand: how many of them are held, and their places. Where one is not held, its place comes after those.
 // The other places are 0.
-#[derive(Drop)]
+#[derive(Clone, Copy)]
 pub struct Sought {
     pub found: usize,
     pub places: [usize; 7],
 }
 
 // A key's place is from `low` to `high`.
-#[derive(Drop)]
+#[derive(Clone, Copy)]
 struct Bounds {
     low: usize,
     high: usize,

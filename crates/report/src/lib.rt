@@ -1,4 +1,6 @@
 // The report on a desk: the best triple, its rows on the sheet, its score.
+#![tactic(auto)]
+
 ghost use Rattle.std.specs.Prelude.{◌≡◌, ◌+◌, ◌/◌, ◌^◌, ◌≤◌, ◌<◌, length, pos, neg_ℤ};
 ghost use Rattle.numbers.specs.Limits.{desks, most_room, row_width};
 ghost use Rattle.logarithm.specs.Table.{AreLogs};

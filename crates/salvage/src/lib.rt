@@ -1,4 +1,6 @@
 // Salvages damaged sitting files: each sample is kept up to its first byte that is no symbol, and what was lost is told.
+#![tactic(auto)]
+
 ghost use Rattle.std.specs.Prelude.{◌≡◌, ◌+◌, ◌-◌, ◌≤◌, take, drop};
 ghost use Rattle.sitting_file.specs.Format.{header_of};
 ghost use Rattle.sitting_file.specs.declared.Heading.TheVariants.{Whole};
@@ -8,14 +10,14 @@ use sitting_file::{Heading, Shape, header};
 use writing::{Writing, write};
 
 // What is gone of a sample: how many of its bytes did not exist, and how many that did were dropped.
-#[derive(Drop)]
+#[derive(Clone, Copy)]
 pub struct Gone {
     pub missing: u64,
     pub dropped: u64,
 }
 
 // What is lost of a damaged file: of each sample, and how many bytes after both were cut off.
-#[derive(Drop)]
+#[derive(Clone, Copy)]
 pub struct Lost {
     pub first: Gone,
     pub second: Gone,
@@ -23,13 +25,13 @@ pub struct Lost {
 }
 
 // Why nothing is salvaged: a fault in the header, as the reader has it, or too few bytes lent for the file.
-#[derive(Drop)]
+#[derive(Clone, Copy)]
 pub enum Refusal {
     Header(sitting_file::Refusal),
     BufferShort,
 }
 
-#[derive(Drop)]
+#[derive(Clone, Copy)]
 pub enum Salvaged {
     // How many bytes the saved file has, and what is lost of the damaged one.
     File(usize, Lost),

@@ -1,4 +1,6 @@
 // What the program that salvages makes of its input: the saved file, and the line that tells what was lost.
+#![tactic(auto)]
+
 ghost use Rattle.std.specs.Prelude.{◌≡◌, min, ◌+◌, ◌≤◌, pos, length};
 ghost use Rattle.numbers.specs.Limits.{longest};
 ghost use Rattle.sitting_file.specs.Input.{input_bytes};
@@ -11,7 +13,7 @@ use salvage::{Lost, Salvaged};
 use sitting_file::{INPUT_BYTES, judged_bytes};
 
 // How many bytes the saved file and the line have.
-#[derive(Drop)]
+#[derive(Clone, Copy)]
 pub struct Lengths {
     pub file: usize,
     pub line: usize,

@@ -1,5 +1,7 @@
 // Salvages a damaged sitting file: reads it from standard input, writes what is saved of it to standard output, and to standard error one line that
 // tells what was lost, or the refusal.
+#![tactic(auto)]
+
 ghost use Rattle.std.specs.Prelude.{◌≤◌};
 
 use libc::{STDERR_FILENO, STDIN_FILENO, STDOUT_FILENO};

@@ -1,4 +1,6 @@
 // Reads a sitting file from standard input and prints its report, or the refusal.
+#![tactic(auto)]
+
 use libc::{STDIN_FILENO, STDOUT_FILENO};
 use printing::TEXT_BYTES;
 use sitting_file::INPUT_BYTES;

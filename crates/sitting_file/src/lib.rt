@@ -1,4 +1,6 @@
 // Reads sitting files: A, D, n, m, n symbols, m symbols, each a number in groups of seven bits.
+#![tactic(auto)]
+
 ghost use Rattle.std.specs.Prelude.{◌≡◌, min, ◌+◌};
 ghost use Rattle.sitting_file.specs.Format.{refusal_number, judged_number, number_at, header_of, symbols_from, read_of};
 ghost use Rattle.sitting_file.specs.Input.{input_bytes};
@@ -7,7 +9,7 @@ ghost use Rattle.sitting_file.specs.Samples.{InLimits};
 use numbers::{DEEPEST, FEWEST_SYMBOLS, LONGEST, MOST_SYMBOLS};
 
 // What an accepted file announces: A, D, n and m. Its symbols are its last n + m bytes.
-#[derive(Drop)]
+#[derive(Clone, Copy)]
 pub struct Shape {
     pub alphabet: u32,
     pub depth: u32,
@@ -16,7 +18,7 @@ pub struct Shape {
 }
 
 // Why a file is refused.
-#[derive(Drop)]
+#[derive(Clone, Copy)]
 pub enum Refusal {
     EndsEarly,
     NotShortest,
@@ -24,21 +26,21 @@ pub enum Refusal {
     BytesLeft,
 }
 
-#[derive(Drop)]
+#[derive(Clone, Copy)]
 pub enum Reading {
     Accepted(Shape),
     Refused(Refusal),
 }
 
 // The four numbers of a header with the place after them, or the first fault in them.
-#[derive(Drop)]
+#[derive(Clone, Copy)]
 pub enum Heading {
     Whole(Shape, usize),
     Faulty(Refusal),
 }
 
 // A number with the place after it, or its fault.
-#[derive(Drop)]
+#[derive(Clone, Copy)]
 enum Number {
     Value(u32, usize),
     Fault(Refusal),

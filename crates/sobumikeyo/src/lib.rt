@@ -1,4 +1,6 @@
 // The library for C: slices and single numbers alone. Each call answers 0 or its refusal's number.
+#![tactic(auto)]
+
 ghost use Rattle.std.specs.Prelude.{◌≡◌};
 ghost use Rattle.replay.specs.Machine.{opening, closing, at_desk, asking};
 ghost use Rattle.replay.specs.Room.{naming};

@@ -1,4 +1,6 @@
 // The soundness test of a store: the frame, one pass over the records in use, the desks and the reservations.
+#![tactic(auto)]
+
 ghost use Rattle.std.specs.Prelude.{◌≡◌, ◌+◌, ◌*◌, ◌≤◌, ◌<◌, length, take, drop};
 ghost use Rattle.numbers.specs.Limits.{most_symbols, desks, most_room};
 ghost use Rattle.numbers.specs.Sum.{sum};

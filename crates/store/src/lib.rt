@@ -1,4 +1,6 @@
 // The store: eight desks' sittings in one run of numbers. Its layout, and its making.
+#![tactic(auto)]
+
 pub mod layout;
 
 ghost use Rattle.std.specs.Prelude.{◌≡◌, length, replicate};
@@ -9,7 +11,7 @@ use numbers::MOST_ROOM;
 use records::WIDTH;
 
 // What a making answers. `refusal_of` of specs/Making.antt has document 01's number of each.
-#[derive(Drop)]
+#[derive(Clone, Copy)]
 pub enum Made {
     Done,
     RoomOutside,

@@ -1,4 +1,6 @@
 // What the functions for C promise, and the numbers that C gets for the answers of calls that change a store.
+#![tactic(auto)]
+
 ghost use Rattle.std.specs.Prelude.{◌≡◌};
 ghost use Rattle.store.specs.Making.{refusal_of};
 ghost use Rattle.calls.specs.Refusals.{outcome_of, ending_of};

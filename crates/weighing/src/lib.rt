@@ -1,5 +1,7 @@
 // The weighing of a desk's records, from the leaves to the root: what its trees lose at least, how many rows its report has, and the
 // decisions, kept beside the records. `logs` is what `logarithm::logs` gave, lent by the caller and only handed on to `estimate`.
+#![tactic(auto)]
+
 ghost use Rattle.std.specs.Prelude.{◌≡◌, cond, not, ◌+◌, ◌≤◌, ◌<◌, ◌^◌, min, length, leb};
 ghost use Rattle.numbers.specs.Sum.{one};
 ghost use Rattle.contexts.specs.Keys.{context_of};
@@ -14,7 +16,7 @@ use estimate::ByKind;
 use records::{DESK_SPAN, stands};
 
 // An open desk: its number, A, D, the weight and the samples' lengths.
-#[derive(Drop)]
+#[derive(Clone, Copy)]
 pub struct Desk {
     pub number: u32,
     pub symbols: u32,
@@ -25,7 +27,7 @@ pub struct Desk {
 }
 
 // What the trees of a desk's sitting lose at least, each alone and both together, and how many rows its report has.
-#[derive(Drop)]
+#[derive(Clone, Copy)]
 pub struct Least {
     pub first: u64,
     pub second: u64,
@@ -62,7 +64,7 @@ pub fn weigh(logs: &[u32], numbers: &[u32], n: usize, desk: Desk, kept: &mut [u8
 }
 
 // A context: its key, how many keys its block has, and how many symbols are left below it.
-#[derive(Drop)]
+#[derive(Clone, Copy)]
 pub struct Context {
     pub key: u32,
     pub span: u32,
@@ -71,7 +73,7 @@ pub struct Context {
 
 // What each tree at a context loses at least, how many members it has, and the place of the first record past the context's block.
 // Under `shared` stand both trees together.
-#[derive(Drop)]
+#[derive(Clone, Copy)]
 pub struct Weighed {
     pub least: ByKind,
     pub rows: ByKind,

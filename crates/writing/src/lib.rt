@@ -1,4 +1,6 @@
 // Writes sitting files: A, D, n and m in their shortest forms, then the symbols, a byte each.
+#![tactic(auto)]
+
 ghost use Rattle.std.specs.Prelude.{◌≡◌, [], ◌∷◌, ◌+◌, ◌<◌, ◌≤◌, T, length};
 ghost use Rattle.numbers.specs.Limits.{longest};
 ghost use Rattle.placing.specs.Placing.{HasRoom, Puts};
@@ -10,13 +12,13 @@ use placing::{put_byte, put_bytes};
 use sitting_file::HIGH_BIT;
 
 // Why a file is not written.
-#[derive(Drop)]
+#[derive(Clone, Copy)]
 pub enum Refusal {
     BadValues,
     BufferShort,
 }
 
-#[derive(Drop)]
+#[derive(Clone, Copy)]
 pub enum Writing {
     // How many bytes the file has.
     Length(usize),
