@@ -1,0 +1,14 @@
+-- `work_out` meets its contract: the first n places have L of their number. Assumes nothing.
+use mathlib.Core.Path.{◌≡◌, refl, sym}
+use Prim.Native.Nat.{◌-◌, ◌≤◌}
+use native.Mathlib.Omega.{arith}
+use lib.ListN.{length, length-set}
+use lib.Seq.{length-take-le}
+use Rattle.logarithm.proofs.Filling.{Filled, filled_lent, filled_more}
+use Rattle.logarithm.proofs.work_out.Given as goal
+
+abbrev pub invariant-loop-n : goal.invariant-loop-n
+invariant-loop-n l = (l.n ≤ length l.initial.values) × (length l.values ≡ length l.initial.values) × Filled l.n l.values
+
+abbrev pub decreases-loop-n : goal.decreases-loop-n
+decreases-loop-n l = length l.initial.values - l.n
