@@ -1,6 +1,6 @@
 -- N(s,a) by place, oldest first, is N(s,a) by past, most recent first. Assumes nothing.
 use Prim.Native.Nat.{ℕ, zero, suc, ◌+◌, ◌-◌, ◌≤◌, ◌<◌}
-use mathlib.Core.Path.{◌≡◌, refl, sym, ap, ap₂, ◌∙◌}
+use mathlib.Core.Path.{◌≡◌, refl, sym, ap, ap₂, ◌∙◌, subst}
 use mathlib.Core.Bool.{Bool, true, false, ◌&&◌, and_assoc}
 use mathlib.Core.List.{List, [], ◌∷◌, ◌++◌, reverse, reverse-cons, reverse-append, reverse-reverse}
 use native.Mathlib.Omega.{arith}
@@ -81,14 +81,16 @@ placed_past : (from : ℕ) (past s : List ℕ) (a : ℕ) → N_placed from (reve
 unfolding N
 placed_past from [] s a = refl
 placed_past from (x ∷ past) s a =
-    let e : length (reverse (x ∷ past)) ≡ suc (length past) = length-reverse (x ∷ past) in
-    rw (e, reverse-cons x past)
+    let w : List ℕ = reverse past ++ x ∷ [] in
+    let e : length w ≡ suc (length past) = ap length (sym (reverse-cons x past)) ∙ length-reverse (x ∷ past) in
+    subst (λ (v : List ℕ). N_placed from v (reverse s) a ≡ N from (x ∷ past) s a) (sym (reverse-cons x past))
+    (subst (λ (n : ℕ). places (follows from w (reverse s) a) n ≡ N from (x ∷ past) s a) (sym e)
     (ap₂ (λ (p q : ℕ). p + q)
-    (places_ext (follows from (reverse past ++ x ∷ []) (reverse s) a) (follows from (reverse past) (reverse s) a) (length past)
+    (places_ext (follows from w (reverse s) a) (follows from (reverse past) (reverse s) a) (length past)
     (λ i l u. follows_earlier from (reverse past) (reverse s) a x i l (rw (length-reverse past) u))
     ∙ ap (places (follows from (reverse past) (reverse s) a)) (sym (length-reverse past))
     ∙ placed_past from past s a)
-    (ap one (follows_newest from past s a x)))
+    (ap one (follows_newest from past s a x))))
 
 -- THEOREM. Document 01's count and the recursion over the past are the same number.
 pub N_placed_is_N : (from : ℕ) (w s : List ℕ) (a : ℕ) → N_placed from w s a ≡ N from (reverse w) (reverse s) a

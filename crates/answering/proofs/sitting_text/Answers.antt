@@ -1,0 +1,12 @@
+-- `answering::sitting_text` meets its contract: the answer is found, and its text is put. Assumes nothing.
+use borrow.Author.Rules.{rules}
+use Rattle.judgement.proofs.Texts.{can_print, answer_prints}
+use Rattle.answering.proofs.sitting_text.Goals as goal
+
+pub put_answer-requires : goal.put_answer-requires
+put_answer-requires c =
+    can_print _ _ _ _ _ _ c.sitting_answer-answer.ensures c.put_answer-arg-3-1.given.0
+
+pub returns : goal.returns
+returns c =
+    answer_prints _ _ _ _ _ _ c.sitting_answer-answer.ensures _ _ _ c.put_answer-arg-3-1.given.0 c.put_answer.ensures

@@ -1,0 +1,26 @@
+-- `desks::room_left` meets its contract. Assumes nothing.
+use mathlib.Core.Path.{◌≡◌, sym, ◌∙◌}
+use mathlib.Core.Bool.{true}
+use borrow.Author.Tests.{not-true, not-false}
+use borrow.Author.Rules.{rules}
+use Rattle.replay.specs.Table.{answered}
+use Rattle.replay.specs.Machine.{room_question}
+use Rattle.rules.specs.Rules.{contexts_left}
+use Rattle.store.specs.Sound.{soundb}
+use Rattle.calls.proofs.Keeping.{asks_unsound, asks_answered}
+use Rattle.changes.proofs.Leaving.{asked_room}
+use Rattle.desks.proofs.room_left.Goals as goal
+
+passed : (c : goal.Else-not-sound) → soundb c.args.store.now ≡ true
+passed c = sym c.sound.ensures ∙ not-false _ c.if-not-sound.false
+
+pub returns-then-not-sound : goal.returns-then-not-sound
+returns-then-not-sound c = asks_unsound c.args.store.now room_question (sym c.sound.ensures ∙ not-true _ c.if-not-sound.true)
+
+pub left_in-requires : goal.left_in-requires
+left_in-requires c = passed c
+
+pub returns : goal.returns
+returns c =
+    let s = c.args.store.now in
+    asks_answered s room_question (answered (contexts_left c.left_in.result)) (passed (goal.at.returns c).Else-not-sound) (asked_room s c.left_in.result c.left_in.ensures)

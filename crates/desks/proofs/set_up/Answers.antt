@@ -1,0 +1,11 @@
+-- `desks::set_up` meets its contract. Assumes nothing.
+use borrow.Author.Rules.{rules}
+use Rattle.replay.specs.Room.{naming}
+use Rattle.changes.proofs.Laying.{opened_now}
+use Rattle.desks.proofs.set_up.Goals as goal
+
+pub returns : goal.returns
+returns c =
+    let x = c.args in
+    let laid = c.lay_out in
+    opened_now x.store-1.now x.desk (naming x.alphabet x.depth x.weight x.reservation) c.requires.0 c.requires.1 laid.new.0 laid.ensures

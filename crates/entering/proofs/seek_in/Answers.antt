@@ -1,0 +1,28 @@
+-- `entering::seek_in` meets its contract. Assumes nothing.
+use native.Mathlib.Omega.{arith}
+use Rattle.store.proofs.Passing.{header_long}
+use Rattle.entering.proofs.Asking.{lent_askable, sought_in}
+use borrow.Author.Rules.{rules}
+use Rattle.entering.proofs.seek_in.Goals as goal
+
+pub bounds-store-1 : goal.bounds-store-1
+bounds-store-1 c = omega (arith, header_long c.args.store.now c.requires.0)
+
+pub overflow_cast-many : goal.overflow_cast-many
+overflow_cast-many c = omega (arith, c.shared_slice_known-3-1.given 1)
+
+pub slice_bounds-seek-count : goal.slice_bounds-seek-count
+slice_bounds-seek-count c = omega (arith, header_long c.args.store.now c.requires.0)
+
+pub slice_bounds-seek-start : goal.slice_bounds-seek-start
+slice_bounds-seek-start c = omega (arith, header_long c.args.store.now c.requires.0)
+
+pub seek-requires : goal.seek-requires
+seek-requires c =
+    let x = c.args in
+    lent_askable x.store.now x.desk x.recent.now c.requires.1
+
+pub returns : goal.returns
+returns c =
+    let x = c.args in
+    sought_in x.store.now x.desk x.recent.now c.seek.result.found c.seek.result.places c.seek.ensures

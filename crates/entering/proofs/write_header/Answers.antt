@@ -1,0 +1,20 @@
+-- `entering::write_header` meets its contract. Assumes nothing.
+use native.Mathlib.Omega.{arith}
+use borrow.Author.Rules.{rules}
+use Rattle.store.proofs.Passing.{header_long}
+use Rattle.entering.proofs.Writing.{header_asks, header_written}
+use Rattle.entering.proofs.write_header.Goals as goal
+
+pub bounds-store-1 : goal.bounds-store-1
+bounds-store-1 c = omega (arith, header_long c.args.store-1.now c.requires.0.sound)
+
+pub note_at-requires : goal.note_at-requires
+note_at-requires c =
+    let x = c.args in
+    header_asks x.store-1.now x.desk x.sample x.symbol c.requires.0 c.requires.1 c.requires.2
+
+pub returns : goal.returns
+returns c =
+    let x = c.args in
+    let noted = c.note_at in
+    header_written x.store-1.now x.desk x.sample x.symbol c.requires.0 c.requires.1 c.requires.2 noted.new.0 noted.ensures

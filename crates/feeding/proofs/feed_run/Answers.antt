@@ -1,0 +1,54 @@
+-- `feeding::feed_run` meets its contract: after `done` accepted feeds what is left of the run decides. Assumes nothing.
+use Prim.Native.Nat.{◌-◌}
+use native.Mathlib.Omega.{arith}
+use borrow.Author.Rules.{rules}
+use mathlib.Core.Path.{◌≡◌, subst, ◌∙◌}
+use lib.ListN.{length, get_or}
+use Rattle.calls.specs.declared.Verdict.{Verdict}
+use Rattle.calls.specs.declared.Verdict.TheVariants.{Done, Refused}
+use Rattle.calls.specs.Refusals.{refusal_number, outcome_of}
+use Rattle.calls.specs.Promises.{Moves}
+use Rattle.calls.specs.Run.{feeding}
+use Rattle.calls.proofs.Running.{Ran, ran_start, ran_on, ran_refused, ran_whole}
+use Rattle.feeding.proofs.feed_run.Goals as goal
+
+pub loop-done-init : goal.loop-done-init
+loop-done-init c =
+    let x = c.args in
+    ran_start x.store-1.now x.desk x.sample x.symbols.now c.requires
+
+pub overflow_cast-symbols : goal.overflow_cast-symbols
+overflow_cast-symbols c = omega (arith, c.shared_slice_known-in-loop-done-1.given c.loop-done.done)
+
+pub feed_sound-requires : goal.feed_sound-requires
+feed_sound-requires c = c.loop-done.invariant.sound
+
+pub loop-done-preserved : goal.loop-done-preserved
+loop-done-preserved c =
+    let x = c.args in
+    let at = c.loop-done in
+    let fed = c.feed_sound in
+    let told : fed.result ≡ Done = c.enum_told-1.given.1 in
+    ran_on x.store-1.now x.desk x.sample x.symbols.now at.store-1 at.done at.invariant fed.new.0 (omega arith) (subst (λ (v : Verdict). Moves at.store-1 (feeding x.desk x.sample (get_or x.symbols.now at.done 0)) (outcome_of v) fed.new.0) told fed.ensures)
+
+pub shape_of-store-in-Refused : goal.shape_of-store-in-Refused
+shape_of-store-in-Refused c = c.feed_sound.ensures.length_stays ∙ c.loop-done.invariant.long
+
+pub returns-in-Refused : goal.returns-in-Refused
+returns-in-Refused c =
+    let x = c.args in
+    let at = c.loop-done in
+    let fed = c.feed_sound in
+    let why = c.why-1.given.0.0 in
+    let told : fed.result ≡ Refused why = c.why-1.given.1 in
+    ran_refused x.store-1.now x.desk x.sample x.symbols.now at.store-1 at.done at.invariant fed.new.0 (refusal_number why) c.requires (omega arith)
+    (subst (λ (v : Verdict). Moves at.store-1 (feeding x.desk x.sample (get_or x.symbols.now at.done 0)) (outcome_of v) fed.new.0) told fed.ensures)
+
+pub shape_of-store : goal.shape_of-store
+shape_of-store c = c.loop-done.invariant.long
+
+pub returns : goal.returns
+returns c =
+    let x = c.args in
+    let at = c.loop-done in
+    ran_whole x.store-1.now x.desk x.sample x.symbols.now at.store-1 at.done at.invariant c.requires (omega arith)

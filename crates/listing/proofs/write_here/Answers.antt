@@ -1,0 +1,28 @@
+-- `listing::write_here` meets its contract. Assumes nothing.
+use mathlib.Core.Path.{◌≡◌, ap, ◌∙◌}
+use Rattle.listing.specs.declared.Plan.{Plan}
+use Rattle.listing.specs.Plans.{plan_of}
+use Rattle.listing.specs.Writing.{kept_plan}
+use Rattle.listing.proofs.Putting.{roomy_as, written_as}
+use borrow.Author.Rules.{rules}
+use Rattle.listing.proofs.write_here.Goals as goal
+
+pub put_here-requires : goal.put_here-requires
+put_here-requires c =
+    let x = c.args in
+    let t = c.table_of-counts in
+    let p = c.plan_of-plan in
+    let is : p.result ≡ kept_plan x.n x.numbers.now x.kept.now x.costs x.spot = p.ensures ∙ ap (plan_of x.spot.way-1) c.mark_of.ensures in
+    roomy_as p.result _ x.len x.spot.code t.result _ is t.ensures _ x.to c.requires.roomy
+
+pub returns : goal.returns
+returns c =
+    let x = c.args in
+    let t = c.table_of-counts in
+    let p = c.plan_of-plan in
+    let g = c.put_here in
+    let is : p.result ≡ kept_plan x.n x.numbers.now x.kept.now x.costs x.spot = p.ensures ∙ ap (plan_of x.spot.way-1) c.mark_of.ensures in
+    record {
+      way_is = ap (λ (q : Plan). q.next-1) is;
+      written = written_as p.result _ x.len x.spot.code t.result _ is t.ensures x.sheet-1.now g.new.0 x.to g.result g.ensures;
+    }

@@ -1,0 +1,31 @@
+-- `listing::write_rows` meets its contract: it writes all that is wanted of both trees from the empty context on. Assumes nothing.
+use mathlib.Core.Path.{sym, subst}
+use mathlib.Core.List.{List}
+use Prim.Native.Nat.{ℕ}
+use borrow.Author.Rules.{rules}
+use lib.ListN.{length}
+use Rattle.listing.specs.Writing.{WroteAt, rows_from, CanWrite}
+use Rattle.weighing.proofs.Whole.{root_is}
+use Rattle.listing.proofs.WholeSheet as whole
+use Rattle.listing.proofs.write_rows.Goals as goal
+
+pub write_from-requires : goal.write_from-requires
+write_from-requires c =
+    let x = c.args in
+    let costs = c.costs_of-costs in
+    let w = c.requires.1.weighable in
+    subst
+    (λ (u : List ℕ). CanWrite x.desk costs.result x.n x.numbers.now x.kept.now (length x.sheet-1.now) u (whole.rootSpot x.desk x.n x.numbers.now w) 0)
+    (sym (root_is x.desk))
+    (whole.root-can x.desk x.n x.numbers.now w x.kept.now x.sheet-1.now c.requires.1 costs.result costs.ensures)
+
+pub returns : goal.returns
+returns c =
+    let x = c.args in
+    let w = c.requires.1.weighable in
+    let g = c.write_from in
+    whole.reported x.desk x.n x.numbers.now w x.sheet-1.now g.new.1.1.1.1.1.0 g.result
+    (subst
+    (λ (u : List ℕ). WroteAt x.sheet-1.now g.new.1.1.1.1.1.0 0 (rows_from x.desk x.n x.numbers.now u (whole.rootSpot x.desk x.n x.numbers.now w)) g.result)
+    (root_is x.desk)
+    g.ensures)

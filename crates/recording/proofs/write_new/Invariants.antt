@@ -1,0 +1,16 @@
+-- `recording::write_new` meets its contract: the first i numbers are 0. Assumes nothing.
+use mathlib.Core.Path.{◌≡◌, refl}
+use mathlib.Core.List.{◌++◌}
+use Prim.Native.Nat.{◌≤◌, ◌-◌}
+use native.Mathlib.Omega.{arith}
+use borrow.Author.Fill.{fill_more}
+use lib.ListN.{length, drop, replicate, length-set}
+use Rattle.records.specs.Records.{width}
+use Rattle.recording.proofs.Shifting.{new_written}
+use Rattle.recording.proofs.write_new.Given as goal
+
+abbrev pub invariant-loop-i : goal.invariant-loop-i
+invariant-loop-i l = (l.i ≤ width) × (length l.part ≡ length l.initial.part) × (l.part ≡ replicate l.i 0 ++ drop l.i l.initial.part)
+
+abbrev pub decreases-loop-i : goal.decreases-loop-i
+decreases-loop-i l = width - l.i

@@ -1,0 +1,45 @@
+-- `recording::write_run` meets its contract: the records of the contexts that are shorter than `seen` are written. Assumes nothing.
+use mathlib.Core.Path.{◌≡◌, refl}
+use Prim.Native.Nat.{◌+◌, ◌-◌, ◌≤◌}
+use native.Mathlib.Omega.{arith}
+use borrow.Author.Rules.{rules}
+use lib.ListN.{length}
+use Rattle.records.proofs.KeyWalk.{Walk, walk_start, walk_fits, walk_on}
+use Rattle.recording.proofs.Opening.{Run, run_start, run_on}
+use Rattle.recording.proofs.write_run.Goals as goal
+
+pub loop-seen-init : goal.loop-seen-init
+loop-seen-init c =
+    let x = c.args in
+    (walk_start x.desk x.recent.now, refl, run_start x.desk x.recent.now x.found x.cell x.part-1.now)
+
+pub write_past-requires : goal.write_past-requires
+write_past-requires c =
+    (omega (arith, c.requires.fits), c.requires.cell)
+
+pub longer-key-requires : goal.longer-key-requires
+longer-key-requires c =
+    let x = c.args in
+    let at = c.loop-seen in
+    walk_fits x.desk x.recent.now c.requires.desk c.requires.context at.key at.eights at.seen at.invariant.0
+
+pub loop-seen-preserved : goal.loop-seen-preserved
+loop-seen-preserved c =
+    let x = c.args in
+    let at = c.loop-seen in
+    let wrote = c.write_past in
+    let on : at.seen ≤ length x.recent.now = omega arith in (
+      walk_on x.desk x.recent.now c.requires.desk c.requires.context at.key at.eights at.seen at.invariant.0 c.longer-key.result on c.longer-key.ensures,
+      search rules,
+      run_on x.desk x.recent.now x.found x.cell at.seen at.key at.part-1 wrote.new.0 (at.invariant.0.key_is on) at.invariant.2 wrote.ensures,
+    )
+
+pub shape_of-part : goal.shape_of-part
+shape_of-part c = c.loop-seen.invariant.1
+
+pub returns : goal.returns
+returns c =
+    let x = c.args in
+    let at = c.loop-seen in
+    let all : at.seen ≡ length x.recent.now + 1 = omega (arith, at.invariant.0.within) in
+    rw all at at.invariant.2

@@ -1,0 +1,34 @@
+-- `records::reach` meets its contract: the place is not before `low`. Assumes nothing.
+use Prim.Native.Nat.{◌≤◌, ◌-◌}
+use native.Mathlib.Omega.{arith}
+use Rattle.records.specs.Records.{records, keys}
+use Rattle.records.specs.Held.{rank}
+use Rattle.records.proofs.Rising.{rank_within, above_middle, up_to_middle}
+use Rattle.records.proofs.reach.Goals as goal
+
+pub loop-at-init : goal.loop-at-init
+loop-at-init c = (c.requires.no_later, omega arith)
+
+pub returns-then-key-numbers : goal.returns-then-key-numbers
+returns-then-key-numbers c =
+    let loop = c.loop-at in
+    let x = c.args in
+    record {
+      standing = c.requires.standing;
+      from_low = loop.invariant.0;
+      to_high = up_to_middle x.n loop.at x.key x.numbers.now (omega arith) c.if-key-numbers.true;
+      inside = omega arith;
+    }
+
+pub loop-at-preserved : goal.loop-at-preserved
+loop-at-preserved c =
+    let loop = c.loop-at in
+    let x = c.args in
+    let more = above_middle x.n loop.at x.key x.numbers.now (omega arith) c.requires.standing.rising c.if-key-numbers.false in
+    (omega arith, omega arith)
+
+pub returns : goal.returns
+returns c =
+    let loop = c.loop-at in
+    let x = c.args in
+    record { standing = c.requires.standing; from_low = loop.invariant.0; to_high = rank_within x.n x.numbers.now x.key; inside = omega arith }

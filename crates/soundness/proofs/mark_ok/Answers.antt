@@ -1,0 +1,12 @@
+-- `soundness::mark_ok` meets its contract. Assumes nothing.
+use borrow.Author.Tests.{eq-eqb, ne_eqb}
+use Rattle.store.specs.Walk.{mark_ok}
+use Rattle.soundness.proofs.mark_ok.Goals as goal
+
+pub returns-then-seen-eq0 : goal.returns-then-seen-eq0
+unfolding mark_ok
+returns-then-seen-eq0 c = rw (eq-eqb c.args.seen 0 c.if-seen-eq0.true)
+
+pub returns : goal.returns
+unfolding mark_ok
+returns c = rw (ne_eqb c.args.seen 0 c.if-seen-eq0.false)

@@ -1,0 +1,16 @@
+-- `writing::all_below` meets its contract: what is left of the symbols decides. Assumes nothing.
+use Prim.Native.Nat.{◌≤◌, ◌-◌}
+use native.Mathlib.Omega.{arith}
+use mathlib.Core.Path.{◌≡◌, refl, sym, ◌∙◌}
+use borrow.Author.Tests.{lt-ltb, le-ltb}
+use lib.Dec.{ltb}
+use lib.ListN.{length, drop, get_or}
+use Rattle.numbers.proofs.Every.{all_step, all_end}
+use Rattle.writing.specs.Writing.{all_below}
+use Rattle.writing.proofs.all_below.Given as goal
+
+abbrev pub invariant-loop-i : goal.invariant-loop-i
+invariant-loop-i l = (l.i ≤ length l.symbols) × (all_below l.alphabet (drop l.i l.symbols) ≡ all_below l.alphabet l.symbols)
+
+abbrev pub decreases-loop-i : goal.decreases-loop-i
+decreases-loop-i l = length l.symbols - l.i
