@@ -10,9 +10,9 @@ use Rattle.numbers.specs.Limits.{most_symbols}
 use Rattle.numbers.proofs.Sums.{sum_part}
 use Rattle.estimate.proofs.added.Goals as goal
 
-fits : (c : goal.After-y-1) (k : ℕ) → k < most_symbols → Fits w32 (get_or (get_or c.args.t1 0 []) k 0 + get_or (get_or c.args.t1 1 []) k 0)
+fits : (c : goal.After-y-1) (k : ℕ) → k < most_symbols → Fits w32 (get_or (get_or c.args.counts 0 []) k 0 + get_or (get_or c.args.counts 1 []) k 0)
 fits c k h =
-    let t = c.args.t1 in
+    let t = c.args.counts in
     omega (arith, sum_part most_symbols (λ a. get_or (get_or t 0 []) a 0) k h, sum_part most_symbols (λ a. get_or (get_or t 1 []) a 0) k h, c.requires)
 
 pub overflow_add-result : goal.overflow_add-result
