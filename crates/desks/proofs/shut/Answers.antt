@@ -26,7 +26,7 @@ pub bounds-store-1 : goal.bounds-store-1
 bounds-store-1 c = omega (arith, header_long c.args.store.now c.requires.0)
 
 pub overflow_cast-used : goal.overflow_cast-used
-overflow_cast-used c = omega (arith, c.slice_known-2-1.given 1)
+overflow_cast-used c = omega (arith, c.slice_known.given 1)
 
 pub slice_bounds-remove_desk-count : goal.slice_bounds-remove_desk-count
 slice_bounds-remove_desk-count c = omega (arith, header_long c.args.store.now c.requires.0)
@@ -54,4 +54,4 @@ bounds-store-desk c =
 pub returns : goal.returns
 returns c =
     let gone = c.remove_desk-kept in
-    closed_now c.args.store.now c.args.desk c.requires.0 c.requires.1 gone.new.0 gone.result (part-long (goal.at.returns c).After-remove_desk-kept) gone.ensures _ _ (omega arith) (omega arith)
+    closed_now c.args.store.now c.args.desk c.requires.0 c.requires.1 gone.new.numbers gone.result (part-long (goal.at.returns c).After-remove_desk-kept) gone.ensures _ _ (omega arith) (omega arith)

@@ -19,7 +19,7 @@ unfolding start
 bounds-store-1 c = let h = sized (start c).args.store.now (start c).args.desk (start c).requires.1 in omega arith
 
 pub overflow_cast-used : goal.overflow_cast-used
-overflow_cast-used c = omega (arith, c.shared_slice_known-3-1.given 1)
+overflow_cast-used c = omega (arith, c.shared_slice_known.given 1)
 
 pub slice_bounds-weigh-count : goal.slice_bounds-weigh-count
 unfolding start
@@ -35,5 +35,5 @@ weigh-requires c =
 
 pub returns : goal.returns
 returns c =
-    has_weighed c.args.store.now c.args.desk c.requires.1 c.args.kept.now c.weigh.new.1.1.1.1.0 c.weigh.result
-    (subst (λ (l : List ℕ). Weighs c.args.desk (used c.args.store.now) l c.args.kept.now c.weigh.new.1.1.1.1.0 c.weigh.result) (tail_lent header_size c.args.store.now) c.weigh.ensures)
+    has_weighed c.args.store.now c.args.desk c.requires.1 c.args.kept.now c.weigh.new.kept c.weigh.result
+    (subst (λ (l : List ℕ). Weighs c.args.desk (used c.args.store.now) l c.args.kept.now c.weigh.new.kept c.weigh.result) (tail_lent header_size c.args.store.now) c.weigh.ensures)

@@ -34,7 +34,7 @@ pub returns : goal.returns
 returns c =
     let store = c.args.store.now in
     let sheet = c.args.sheet.now in
-    let part = c.write_rows.new.1.1.1.1.1.0 in
+    let part = c.write_rows.new.sheet in
     has_written store c.args.desk c.requires.1 c.args.place sheet c.requires.3 part _
     (subst (λ (l : List ℕ). Listed c.args.desk (used store) l (drop (row_width * c.args.place) sheet) part) (tail_lent header_size store)
     (subst (λ (l : List ℕ). Listed c.args.desk (used store) (take (length store - header_size) (drop header_size store)) l part) (tail_lent (row_width * c.args.place) sheet) c.write_rows.ensures))
