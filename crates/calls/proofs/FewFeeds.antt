@@ -52,13 +52,13 @@ module _ (d k a : ℕ) (ρ : Room Progress) where
 
 -- what is left of the sample bounds the run
 run_short : (d k : ℕ) (symbols : List ℕ) (ρ : Room Progress) → (fed_run d k symbols ρ).accepted ≤ longest - size_at k (ρ.at d)
-unfolding fed_run run.thenRest
+unfolding fed_run run.then_rest
 run_short d k [] ρ = omega arith
 run_short d k (a ∷ rest) ρ = go (verdict rules ρ (feeding d k a)) refl (run_short d k rest (move rules ρ (feeding d k a)))
   where
     go : (o : Outcome Answer) → verdict rules ρ (feeding d k a) ≡ o
         → (fed_run d k rest (move rules ρ (feeding d k a))).accepted ≤ longest - size_at k ((move rules ρ (feeding d k a)).at d)
-        → (run.thenRest o ρ (fed_run d k rest (move rules ρ (feeding d k a)))).accepted ≤ longest - size_at k (ρ.at d)
+        → (run.then_rest o ρ (fed_run d k rest (move rules ρ (feeding d k a)))).accepted ≤ longest - size_at k (ρ.at d)
     go (refused n) e h = omega arith
     go (answered x) e h = omega (arith, h, grown d k a ρ x e, not_full d k a ρ (ρ.at d) (passes d k a ρ x e))
 

@@ -59,7 +59,7 @@ module _ (ρ : Room Progress) (d sheet place : ℕ) where
       module _ (m : o.depth < p.size second) where
         -- both samples are long enough: what is left is the sheet
         by_sheet : verdict rules ρ (asked d sheet place) ≡ cond (does_not_fit sheet place (sat o.symbols o.depth o.weight p)) (refused 12) (answered (reported (report (sat o.symbols o.depth o.weight p))))
-        unfolding verdict verdict_of table_of table_at asking_table own_lines answer_of answer_at sitting.lines_of sitting.askAnswer
+        unfolding verdict verdict_of table_of table_at asking_table own_lines answer_of answer_at sitting.lines_of sitting.ask_answer
         by_sheet =
             rw (lt-leb desks d l, e, ne_eqb (p.size first) 0 (λ z. omega arith), ne_eqb (p.size second) 0 (λ z. omega arith), long_enough o (p.size first) n, long_enough o (p.size second) m)
 

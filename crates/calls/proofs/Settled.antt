@@ -71,7 +71,7 @@ judged (l ∷ ls) x = go (applies l) (judged ls x)
     go false t = t
 
 report_told : (ρ : Room Progress) (d sheet place : ℕ) → Told (verdict rules ρ (at_desk d (asking (reporting sheet place))))
-unfolding verdict verdict_of table_of table_at asking_table answer_of answer_at sitting.askAnswer
+unfolding verdict verdict_of table_of table_at asking_table answer_of answer_at sitting.ask_answer
 report_told ρ d sheet place = go (ρ.at d)
   where
     no_sitting : (b : Bool) → Told (cond b (refused 2) (refused 4))

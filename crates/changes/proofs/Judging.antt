@@ -38,10 +38,10 @@ module _ (s : List ℕ) (d k a : ℕ) where
 
   module _ (o : Open s d) where
     -- what is left of the table at an open desk
-    at_open : said ≡ cond (rule.notOfSitting (opening_at s d) k a) (refused 8)
-        (cond (rule.isFull (progress_at s d) k) (refused 9)
-        (cond (rule.pastReservation (opening_at s d) (progress_at s d) k a) (refused 10) (answered done)))
-    unfolding verdict table_of table_at asking_table own_lines verdict_of meaning lines_of machine.answer_of answer_at rules.askAnswer
+    at_open : said ≡ cond (rule.not_of_sitting (opening_at s d) k a) (refused 8)
+        (cond (rule.is_full (progress_at s d) k) (refused 9)
+        (cond (rule.past_reservation (opening_at s d) (progress_at s d) k a) (refused 10) (answered done)))
+    unfolding verdict table_of table_at asking_table own_lines verdict_of meaning lines_of machine.answer_of answer_at rules.ask_answer
     at_open = rw (lt-leb desks d o.desk, desk_opened s d o)
 
     pub no_sample : 1 < k → said ≡ refused 8

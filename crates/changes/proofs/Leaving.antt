@@ -30,6 +30,6 @@ pub reserves_fit : (s : List ℕ) → soundb s ≡ true → sum desks (reserved_
 reserves_fit s h = (passed s h).reserves
 
 -- the room question is never refused by its table
-pub asked_room : (s : List ℕ) (n : ℕ) → n ≡ left (meaning s) → verdict rules (meaning s) room_question ≡ answered (answer.contextsLeft n)
+pub asked_room : (s : List ℕ) (n : ℕ) → n ≡ left (meaning s) → verdict rules (meaning s) room_question ≡ answered (answer.contexts_left n)
 unfolding verdict table_of answer_of verdict_of
 asked_room s n e = rw e

@@ -48,14 +48,14 @@ module _ (s t : List ℕ) (d : ℕ) (i : Sample) (a : ℕ) (f : FedStore s t d i
       λ j. record { symbols = A j; depth = D j; weight = w j; reserve = r j }
 
   abbrev next : Progress
-  next = rule.afterFeed (opening_at s d) i a (progress_at s d)
+  next = rule.after_feed (opening_at s d) i a (progress_at s d)
 
   size_next : (j : Sample) → (progress_at t d).size j ≡ next.size j
-  unfolding rule.afterFeed
+  unfolding rule.after_feed
   size_next j = f.sizes j
 
   recent_next : (j : Sample) → (progress_at t d).recent j ≡ next.recent j
-  unfolding rule.afterFeed
+  unfolding rule.after_feed
   recent_next j =
       rw (f.sizes j, f.limits_same 2 (omega arith), f.slots j) (go (same_sample j i))
     where
@@ -70,7 +70,7 @@ module _ (s t : List ℕ) (d : ℕ) (i : Sample) (a : ℕ) (f : FedStore s t d i
       (context_take (symbols_at s d) (depth_at s d) (length c) (recent_at s d i) (recent_context s p.sound d p.at_open i))))
 
   count_next : (j : Sample) (c : List ℕ) (b : ℕ) → (progress_at t d).count j c b ≡ next.count j c b
-  unfolding rule.afterFeed
+  unfolding rule.after_feed
   count_next j c b =
       rw (context_same s t d i a f d p.at_open.desk c) (go (T? (is_context (symbols_at s d) (depth_at s d) c)))
     where

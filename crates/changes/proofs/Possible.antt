@@ -61,11 +61,11 @@ module _ (s : List ℕ) (h : soundb s ≡ true) (d : ℕ) where
   reserving : (o : Opening) → d < desks → (Open s d → ⊥) → outside_limits o ≡ false → weight_outside o ≡ false → Possible s (at_desk d (opening o))
   reserving o near shut limits weight =
       elim (dec_le 1 o.reserve) [
-        | no z ↦ refuses 6 (at_desk d (opening o)) (grant.zero-reserved (meaning s) d o ready (omega arith))
+        | no z ↦ refuses 6 (at_desk d (opening o)) (grant.zero_reserved (meaning s) d o ready (omega arith))
         | yes some ↦ elim (dec_le o.reserve (meaning s).made) [
-          | no far ↦ refuses 6 (at_desk d (opening o)) (grant.above-room (meaning s) d o ready some (omega arith))
+          | no far ↦ refuses 6 (at_desk d (opening o)) (grant.above_room (meaning s) d o ready some (omega arith))
           | yes in_room ↦ elim (dec_le o.reserve (left (meaning s))) [
-            | no far ↦ refuses 7 (at_desk d (opening o)) (grant.above-left (meaning s) d o ready some in_room (omega arith))
+            | no far ↦ refuses 7 (at_desk d (opening o)) (grant.above_left (meaning s) d o ready some in_room (omega arith))
             | yes fits ↦ granted o shut (record { ready = ready; some = some; in_room = in_room; fits = fits })
           ]
         ]
@@ -76,7 +76,7 @@ module _ (s : List ℕ) (h : soundb s ≡ true) (d : ℕ) where
 
   pub opening_possible : (o : Opening) → Possible s (at_desk d (opening o))
   opening_possible o = elim (dec_le desks d) [
-    | yes far ↦ refuses 2 (at_desk d (opening o)) (grant.no-desk (meaning s) d o far)
+    | yes far ↦ refuses 2 (at_desk d (opening o)) (grant.no_desk (meaning s) d o far)
     | no near ↦ elim (open? s d) [
       | yes p ↦ refuses 3 (at_desk d (opening o)) (open_there s d o p)
       | no shut ↦ go (omega arith) shut (outside_limits o) refl
@@ -113,17 +113,17 @@ module _ (s : List ℕ) (h : soundb s ≡ true) (d : ℕ) where
   module _ (k a : ℕ) where
     judged : Open s d → k ≤ 1 → a < symbols_at s d → size_at s d (sample_of k) < longest → Possible s (at_desk d (asking (feed k a)))
     judged o one below short = elim (dec_le (held_by d (records_in s) + missing_if (is_counted s d (sample_of k)) d (recent_at s d (sample_of k)) (records_in s)) (reserve_at s d)) [
-      | no past ↦ refuses 10 (at_desk d (asking (feed k a))) (judge.past-reservation s d k a o one below short h (omega arith))
+      | no past ↦ refuses 10 (at_desk d (asking (feed k a))) (judge.past_reservation_lem s d k a o one below short h (omega arith))
       | yes within ↦ acceptable k a one (record { sound = h; at_open = o; of_alphabet_holds = below; not_full = short; reserved = within })
     ]
 
     at_open : Open s d → Possible s (at_desk d (asking (feed k a)))
     at_open o = elim (dec_le k 1) [
-      | no far ↦ refuses 8 (at_desk d (asking (feed k a))) (judge.no-sample s d k a o (omega arith))
+      | no far ↦ refuses 8 (at_desk d (asking (feed k a))) (judge.no_sample s d k a o (omega arith))
       | yes one ↦ elim (dec_le (symbols_at s d) a) [
         | yes far ↦ refuses 8 (at_desk d (asking (feed k a))) (judge.no_symbol s d k a o one far)
         | no near ↦ elim (dec_le longest (size_at s d (sample_of k))) [
-          | yes full ↦ refuses 9 (at_desk d (asking (feed k a))) (judge.sample-full s d k a o one (omega arith) full)
+          | yes full ↦ refuses 9 (at_desk d (asking (feed k a))) (judge.sample_full s d k a o one (omega arith) full)
           | no short ↦ judged o one (omega arith) (omega arith)
         ]
       ]
@@ -131,9 +131,9 @@ module _ (s : List ℕ) (h : soundb s ≡ true) (d : ℕ) where
 
     pub feed_possible : Possible s (at_desk d (asking (feed k a)))
     feed_possible = elim (dec_le desks d) [
-      | yes far ↦ refuses 2 (at_desk d (asking (feed k a))) (judge.no-such-desk s d k a far)
+      | yes far ↦ refuses 2 (at_desk d (asking (feed k a))) (judge.no_such_desk_lem s d k a far)
       | no near ↦ elim (open? s d) [
         | yes o ↦ at_open o
-        | no shut ↦ refuses 4 (at_desk d (asking (feed k a))) (judge.not-open s d k a (omega arith) shut)
+        | no shut ↦ refuses 4 (at_desk d (asking (feed k a))) (judge.not_open s d k a (omega arith) shut)
       ]
     ]

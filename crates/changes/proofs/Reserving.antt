@@ -45,10 +45,10 @@ one_in second x y false = ap (ltb 0) (let e : x + 0 + (y + 0) ≡ x + y = omega 
 module _ (s : List ℕ) (h : soundb s ≡ true) (d : ℕ) (o : Open s d) (i : Sample) (a : ℕ) (l : a < symbols_at s d) where
   -- the desk's sitting after the feed
   abbrev after : Sitting
-  after = sat (symbols_at s d) (depth_at s d) (weight_at s d) (rule.afterFeed (opening_at s d) i a (progress_at s d))
+  after = sat (symbols_at s d) (depth_at s d) (weight_at s d) (rule.after_feed (opening_at s d) i a (progress_at s d))
 
   total_after : (j : Sample) (c : List ℕ) → total_in after j c ≡ total_in (sitting_at s d) j c + one (same_sample j i && (is_counted s d i && begins c (recent_at s d i)))
-  unfolding rule.afterFeed
+  unfolding rule.after_feed
   total_after j c =
       sum_cong (symbols_at s d) {g = λ b. (progress_at s d).count j c b + one ((same_sample j i && (is_counted s d i && begins c (recent_at s d i))) && eqb b a)}
       (λ b m. rw (regroup (same_sample j i) (is_counted s d i) (begins c (recent_at s d i)) (eqb a b), eqb_sym a b))

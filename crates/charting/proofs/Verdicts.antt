@@ -88,10 +88,10 @@ module _ (s : List ℕ) (d len code a : ℕ) (g : Asked s d len a) where
     pub key_readable : Readable s k a
     key_readable = subst (λ (m : ℕ). Readable s m a) under (readable s g.sound d g.at_open (decoded len code) context a g.symbol)
 
-    pub asks_chart : (r : Chart) → r ≡ chart_in (held.countTable (lookup k (records_in s))) a → Asks s (at_desk d (asking (charting len code a))) (answered (point r))
+    pub asks_chart : (r : Chart) → r ≡ chart_in (held.count_table (lookup k (records_in s))) a → Asks s (at_desk d (asking (charting len code a))) (answered (point r))
     asks_chart r q =
         let same : r ≡ chart_of (sitting_at s d) (decoded len code) a =
-        q ∙ ap (λ (m : ℕ). chart_in (held.countTable (lookup m (records_in s))) a) (sym under) ∙ chart_read s g.sound d g.at_open (decoded len code) context a g.symbol in
+        q ∙ ap (λ (m : ℕ). chart_in (held.count_table (lookup m (records_in s))) a) (sym under) ∙ chart_read s g.sound d g.at_open (decoded len code) context a g.symbol in
         asks_answered s _ (answered (point r)) g.sound
         (by_lines s g.sound d g.at_open len code a
         ∙ rw (lt-leb (symbols_at s d) a g.symbol, le-ltb (depth_at s d) len g.short, (named_key (symbols_at s d) d len code k n).0, same))

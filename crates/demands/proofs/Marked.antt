@@ -17,13 +17,13 @@ use Rattle.demands.specs.Marked.{AllHold, marked, wider, weighted}
 
 -- THEOREM
 pub marked_hold : AllHold marked
-unfolding marked after L sum code_of total sumℤ totalℤ spread best joint tree estimate gather members reserved left verdict_of put settle outside_limits weight_outside zero_or_above_k above_room_left opening_table own_lines asking_table table_at table_of answer_at answer_of verdict moved shift move outcomes after_feed sitting.lines_of sitting.askAnswer sitting.next_of
+unfolding marked after L sum code_of total sumℤ totalℤ spread best joint tree estimate gather members reserved left verdict_of put settle outside_limits weight_outside zero_or_above_k above_room_left opening_table own_lines asking_table table_at table_of answer_at answer_of verdict moved shift move outcomes after_feed sitting.lines_of sitting.ask_answer sitting.next_of
 marked_hold = refl
 
 pub wider_hold : AllHold wider
-unfolding wider L sum code_of total sumℤ totalℤ spread best joint tree estimate gather members reserved left verdict_of put settle outside_limits weight_outside zero_or_above_k above_room_left opening_table own_lines asking_table table_at table_of answer_at answer_of verdict moved shift move outcomes after_feed sitting.lines_of sitting.askAnswer sitting.next_of
+unfolding wider L sum code_of total sumℤ totalℤ spread best joint tree estimate gather members reserved left verdict_of put settle outside_limits weight_outside zero_or_above_k above_room_left opening_table own_lines asking_table table_at table_of answer_at answer_of verdict moved shift move outcomes after_feed sitting.lines_of sitting.ask_answer sitting.next_of
 wider_hold = refl
 
 pub weighted_hold : AllHold weighted
-unfolding weighted L sum code_of total sumℤ totalℤ spread best joint tree estimate gather members reserved left verdict_of put settle outside_limits weight_outside zero_or_above_k above_room_left opening_table own_lines asking_table table_at table_of answer_at answer_of verdict moved shift move outcomes after_feed sitting.lines_of sitting.askAnswer sitting.next_of
+unfolding weighted L sum code_of total sumℤ totalℤ spread best joint tree estimate gather members reserved left verdict_of put settle outside_limits weight_outside zero_or_above_k above_room_left opening_table own_lines asking_table table_at table_of answer_at answer_of verdict moved shift move outcomes after_feed sitting.lines_of sitting.ask_answer sitting.next_of
 weighted_hold = refl

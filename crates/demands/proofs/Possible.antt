@@ -30,15 +30,15 @@ possible σ c f = go (soundb σ) refl
   where
     go : (b : Bool) → soundb σ ≡ b → move.Possible σ c
     go true e = f e
-    go false e = move.unsound-possible σ c e
+    go false e = move.unsound_possible σ c e
 
 -- THEOREM. Each call, at any numbers, has an outcome that its promise allows
 pub each_can : EachCan
-each_can σ (at_desk d (opening o)) = let m = possible σ (at_desk d (opening o)) (λ e. move.opening-possible σ e d o) in record { outcome = m.outcome; after = m.after; does = m.moves; words = m.words }
-each_can σ (at_desk d (asking (feed k a))) = let m = possible σ (at_desk d (asking (feed k a))) (λ e. move.feed-possible σ e d k a) in record { outcome = m.outcome; after = m.after; does = m.moves; words = m.words }
+each_can σ (at_desk d (opening o)) = let m = possible σ (at_desk d (opening o)) (λ e. move.opening_possible σ e d o) in record { outcome = m.outcome; after = m.after; does = m.moves; words = m.words }
+each_can σ (at_desk d (asking (feed k a))) = let m = possible σ (at_desk d (asking (feed k a))) (λ e. move.feed_possible σ e d k a) in record { outcome = m.outcome; after = m.after; does = m.moves; words = m.words }
 each_can σ (at_desk d (asking (reporting sheet place))) = can_report σ d sheet place
 each_can σ (at_desk d (asking (charting len code a))) = only_asked σ (at_desk d (asking (charting len code a))) (λ o m. record { outcome = o; after = σ; does = m; words = λ w. w })
-each_can σ (at_desk d closing) = let m = possible σ (at_desk d closing) (λ e. move.closing-possible σ e d) in record { outcome = m.outcome; after = m.after; does = m.moves; words = m.words }
+each_can σ (at_desk d closing) = let m = possible σ (at_desk d closing) (λ e. move.closing_possible σ e d) in record { outcome = m.outcome; after = m.after; does = m.moves; words = m.words }
 each_can σ room_question = only_asked σ room_question (λ o m. record { outcome = o; after = σ; does = m; words = λ w. w })
 
 -- .. and so can calls one after the other

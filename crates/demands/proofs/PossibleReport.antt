@@ -44,7 +44,7 @@ module _ (σ : List ℕ) (d sheet place : ℕ) where
 
   module _ (h : soundb σ ≡ true) where
     refuses : (why : Refusal) → verdict rules (meaning σ) (at_desk d (asking (reporting (length blank) place))) ≡ refused (refusal_number why) → CanDo σ (at_desk d (asking (reporting sheet place)))
-    refuses why v = told why (table.reports-refused σ d place blank (refusal_number why) h v)
+    refuses why v = told why (table.reports_refused σ d place blank (refusal_number why) h v)
 
     module _ (o : Opening) (p : Progress) (near : d < desks) (e : (meaning σ).at d ≡ opened o p) (n : o.depth < p.size first) (m : o.depth < p.size second) where
       abbrev x : Sitting
@@ -65,7 +65,7 @@ module _ (σ : List ℕ) (d sheet place : ℕ) where
               named = long;
               answer = Rows (length (report_of x)) (report x).score;
               read = ap (λ (rs : List Row). answered (reported (record { rows = rs; score = (report x).score }))) (sym back);
-              reports = table.reports-rows σ d place blank (report x) after h (table.rows_told (meaning σ) d (length blank) place o p near e n m fits) refl;
+              reports = table.reports_rows σ d place blank (report x) after h (table.rows_told (meaning σ) d (length blank) place o p near e n m fits) refl;
               only_read = refl;
             };
             words = λ w. w;
@@ -74,7 +74,7 @@ module _ (σ : List ℕ) (d sheet place : ℕ) where
       both_long : CanDo σ (at_desk d (asking (reporting sheet place)))
       both_long = elim (dec_le (place + length (report_of x)) (length blank / row_width)) [
         | yes fits ↦ rows fits
-        | no far ↦ refuses SheetShort (table.sheet-short (meaning σ) d (length blank) place o p near e n m (omega arith))
+        | no far ↦ refuses SheetShort (table.sheet_short (meaning σ) d (length blank) place o p near e n m (omega arith))
       ]
 
     -- both samples have symbols
@@ -89,7 +89,7 @@ module _ (σ : List ℕ) (d sheet place : ℕ) where
 
     at_open : (o : Opening) (p : Progress) → d < desks → (meaning σ).at d ≡ opened o p → CanDo σ (at_desk d (asking (reporting sheet place)))
     at_open o p near e = elim (dec_le 1 (p.size first)) [
-      | no z ↦ refuses SampleEmpty (table.first-empty (meaning σ) d (length blank) place o p near e (omega arith))
+      | no z ↦ refuses SampleEmpty (table.first_empty (meaning σ) d (length blank) place o p near e (omega arith))
       | yes one ↦ elim (dec_le 1 (p.size second)) [
         | no z ↦ refuses SampleEmpty (table.second_empty (meaning σ) d (length blank) place o p near e (λ q. omega arith) (omega arith))
         | yes two ↦ fed o p near e one two
@@ -97,15 +97,15 @@ module _ (σ : List ℕ) (d sheet place : ℕ) where
     ]
 
     at_desk_holds : d < desks → (D : Desk Progress) → (meaning σ).at d ≡ D → CanDo σ (at_desk d (asking (reporting sheet place)))
-    at_desk_holds near closed e = refuses NotOpen (table.not-open (meaning σ) d (length blank) place near e)
+    at_desk_holds near closed e = refuses NotOpen (table.not_open (meaning σ) d (length blank) place near e)
     at_desk_holds near (opened o p) e = at_open o p near e
 
   pub can_report : CanDo σ (at_desk d (asking (reporting sheet place)))
   can_report = go (soundb σ) refl
     where
       go : (b : Bool) → soundb σ ≡ b → CanDo σ (at_desk d (asking (reporting sheet place)))
-      go false e = told Unsound (table.reports-unsound σ d place blank e)
+      go false e = told Unsound (table.reports_unsound σ d place blank e)
       go true e = elim (dec_le desks d) [
-        | yes far ↦ refuses e NoSuchDesk (table.no-such-desk (meaning σ) d (length blank) place far)
+        | yes far ↦ refuses e NoSuchDesk (table.no_such_desk_lem (meaning σ) d (length blank) place far)
         | no near ↦ at_desk_holds e (omega arith) ((meaning σ).at d) refl
       ]

@@ -47,10 +47,10 @@ never : {B : Type 0} {h : Head} {n : ℕ} → answer.Reported h ≡ answer.Refus
 never e = let z : ◌≡◌ {A = ℕ} 0 1 = cc in absurd (omega arith)
 
 pub demand_of_program : DemandOfProgram
-unfolding answers.answerFor answers.sheetLeft
+unfolding answers.answer_for answers.sheet_left
 demand_of_program file store sheet store' sheet' head a = go (judgement file (length sheet)) refl a.answer a.rows
   where
-    go : (j : Outcome FileReport) → judgement file (length sheet) ≡ j → answer.Reported head ≡ answers.answerFor j → sheet' ≡ answers.sheetLeft j sheet → OfItsFile file sheet head sheet'
+    go : (j : Outcome FileReport) → judgement file (length sheet) ≡ j → answer.Reported head ≡ answers.answer_for j → sheet' ≡ answers.sheet_left j sheet → OfItsFile file sheet head sheet'
     go (refused n) e r s = never r
     go (answered x) e r s =
         let k = stands file (length sheet) x e in

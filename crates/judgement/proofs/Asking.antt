@@ -61,7 +61,7 @@ module _ (file : List ℕ) (shape : Shape) (h : Holds file shape) (sheet : ℕ) 
 
   -- the question at the desk that has the file's strings
   pub asked : (ρ : Room Progress) → Sits (opening_of shape) (strings_in file shape) ρ → verdict rules ρ (at_desk 0 (asking (reporting sheet 0))) ≡ verdict_of late (reported its)
-  unfolding verdict verdict_of table_of table_at asking_table own_lines lines_of answer_of answer_at sitting.askAnswer strings_in
+  unfolding verdict verdict_of table_of table_at asking_table own_lines lines_of answer_of answer_at sitting.ask_answer strings_in
   asked ρ s =
       let p = s.progress in
       let own = own_report (opening_of shape) (strings_in file shape) p s.stands in
@@ -81,8 +81,8 @@ module _ (shape : Shape) (its : Reported) (store sheet sheet' : List ℕ) where
   abbrev mine : FileReport
   mine = record { shape = shape; report = its }
 
-  pub told_right : (r : ReportAnswer) (o : Outcome Answer) (j : Outcome FileReport) → Alike (reported its) mine o j → written_of r 0 sheet' ≡ o → told_of shape r ≡ answers.answerFor j
-  unfolding answers.answerFor
+  pub told_right : (r : ReportAnswer) (o : Outcome Answer) (j : Outcome FileReport) → Alike (reported its) mine o j → written_of r 0 sheet' ≡ o → told_of shape r ≡ answers.answer_for j
+  unfolding answers.answer_for
   told_right (written.Rows n z) o j (by_number k) e = never e
   told_right (written.Rows n z) o j by_answer e =
       let f = reported_same e in

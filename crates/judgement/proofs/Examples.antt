@@ -22,7 +22,7 @@ abbrev pub J3_file : List ℕ
 J3_file = 2 ∷ 1 ∷ 8 ∷ 8 ∷ 0 ∷ 1 ∷ 0 ∷ 1 ∷ 0 ∷ 1 ∷ 0 ∷ 1 ∷ 0 ∷ 0 ∷ 1 ∷ 0 ∷ 0 ∷ 1 ∷ 0 ∷ 0 ∷ []
 
 pub J3_text : text_of (judgement J3_file sheet_numbers) ≡ ascii "2 1 8 8 3 -80704\n1 1 0 0 4\n2 1 0 3 2\n0 1 1 5 0\n"
-unfolding format.judgedNumber second_group first_group header_up_to symbols_from body_of strings_in judged verdict_of L sum code_of N total sumℤ totalℤ spread best joint tree estimate gather members lines_text text_of ascii spelled line_of
+unfolding format.judged_number second_group first_group header_up_to symbols_from body_of strings_in judged verdict_of L sum code_of N total sumℤ totalℤ spread best joint tree estimate gather members lines_text text_of ascii spelled line_of
 J3_text = refl
 
 -- a file that ends early
@@ -32,10 +32,10 @@ empty_text = refl
 
 -- J5: neither sample has more symbols than the depth
 pub short_text : text_of (judgement (2 ∷ 1 ∷ 1 ∷ 1 ∷ 0 ∷ 0 ∷ []) sheet_numbers) ≡ ascii "refused 24\n"
-unfolding format.judgedNumber first_group header_up_to symbols_from body_of strings_in judged verdict_of sum N total text_of ascii spelled line_of
+unfolding format.judged_number first_group header_up_to symbols_from body_of strings_in judged verdict_of sum N total text_of ascii spelled line_of
 short_text = refl
 
 -- an empty sample
 pub no_sample_text : text_of (judgement (2 ∷ 1 ∷ 0 ∷ 1 ∷ 0 ∷ []) sheet_numbers) ≡ ascii "refused 11\n"
-unfolding format.judgedNumber first_group header_up_to symbols_from body_of strings_in judged verdict_of sum N total text_of ascii spelled line_of
+unfolding format.judged_number first_group header_up_to symbols_from body_of strings_in judged verdict_of sum N total text_of ascii spelled line_of
 no_sample_text = refl

@@ -39,7 +39,7 @@ pub data Ran (o : Opening) (w : Sample → List ℕ) (r : FeedRun) : Type 0 wher
 module _ (o : Opening) (k a : ℕ) (ρ : Room Progress) (p : Progress) (e : ρ.at 0 ≡ opened o p) (known : ltb 1 k ≡ false) (small : a < o.symbols) (short : p.size (sample_of k) < longest) where
   -- only refusal 10 is left
   feed_told : (b : Bool) → past_reservation o p k a ≡ b → verdict rules ρ (feeding 0 k a) ≡ cond b (refused 10) (answered done)
-  unfolding verdict verdict_of table_of table_at asking_table own_lines lines_of answer_of answer_at sitting.askAnswer
+  unfolding verdict verdict_of table_of table_at asking_table own_lines lines_of answer_of answer_at sitting.ask_answer
   feed_told b f = rw (e, known, lt-leb o.symbols a small, lt-leb longest (p.size (sample_of k)) short, f)
 
   feed_moved : past_reservation o p k a ≡ false → (move rules ρ (feeding 0 k a)).at 0 ≡ opened o (after_feed o (sample_of k) a p)
@@ -71,13 +71,13 @@ module _ (o : Opening) (k a : ℕ) (w : Sample → List ℕ) (ρ : Room Progress
   }
 
 -- one more accepted feed before a run
-one_before : (o : Opening) (w : Sample → List ℕ) (ρ : Room Progress) (r : FeedRun) → Ran o w r → Ran o w (run.thenRest (answered done) ρ r)
-unfolding run.thenRest
+one_before : (o : Opening) (w : Sample → List ℕ) (ρ : Room Progress) (r : FeedRun) → Ran o w r → Ran o w (run.then_rest (answered done) ρ r)
+unfolding run.then_rest
 one_before o w ρ r (whole h e s) = whole h e s
 one_before o w ρ r (stopped h e) = stopped h e
 
-stopped_here : (o : Opening) (w : Sample → List ℕ) (ρ : Room Progress) (r : FeedRun) → o.reserve < contexts_held (sitting_for o w) → Ran o w (run.thenRest (refused 10) ρ r)
-unfolding run.thenRest
+stopped_here : (o : Opening) (w : Sample → List ℕ) (ρ : Room Progress) (r : FeedRun) → o.reserve < contexts_held (sitting_for o w) → Ran o w (run.then_rest (refused 10) ρ r)
+unfolding run.then_rest
 stopped_here o w ρ r h = stopped h refl
 
 longer_by_one : (i : Sample) (a : ℕ) (w : Sample → List ℕ) → length (push i a w i) ≡ suc (length (w i))
@@ -107,7 +107,7 @@ module _ (o : Opening) (k : ℕ) (known : ltb 1 k ≡ false) where
       go : (t : Bool) → ltb o.reserve held ≡ t
           → (Sits o (push i a w) (move rules ρ (feeding 0 k a)) → held ≤ o.reserve → Below o.symbols us → length (push i a w i) + length us ≤ longest
           → Ran o (pushed i us (push i a w)) (fed_run 0 k us (move rules ρ (feeding 0 k a))))
-          → Ran o (pushed i us (push i a w)) (run.thenRest (verdict rules ρ (feeding 0 k a)) ρ (fed_run 0 k us (move rules ρ (feeding 0 k a))))
+          → Ran o (pushed i us (push i a w)) (run.then_rest (verdict rules ρ (feeding 0 k a)) ρ (fed_run 0 k us (move rules ρ (feeding 0 k a))))
       go true e rest =
           let past : o.reserve < held = ltb-true o.reserve held e in
           rw (feed_past o k a w ρ s known small short past) (stopped_here o (pushed i us (push i a w)) ρ _ (lt_of_lt_of_le past (held_pushed o i us (push i a w))))

@@ -36,19 +36,19 @@ use Rattle.judgement.proofs.Asking.{alike, late, asked, never, told_right, sheet
 
 module _ (file store sheet : List ℕ) where
   from_judged : (x : Reading) → read_of file ≡ x → (j : Outcome FileReport) → judged file (length sheet) x ≡ j → (r : SittingAnswer) (store' sheet' : List ℕ)
-      → r ≡ answers.answerFor j → sheet' ≡ sheet_left j sheet → StoreAfter file x store store' → Answers file store sheet r store' sheet'
+      → r ≡ answers.answer_for j → sheet' ≡ sheet_left j sheet → StoreAfter file x store store' → Answers file store sheet r store' sheet'
   from_judged x e j f r store' sheet' a s n =
       let g : judgement file (length sheet) ≡ j = ap (judged file (length sheet)) e ∙ f in
       record {
-        answer = a ∙ sym (ap answers.answerFor g);
+        answer = a ∙ sym (ap answers.answer_for g);
         rows = s ∙ sym (ap (λ (k : Outcome FileReport). sheet_left k sheet) g);
         numbers = subst (λ (y : Reading). StoreAfter file y store store') (sym e) n;
       }
 
   -- the reader refuses
-  pub reader_refuses : (why : fault.Refusal) → read_of file ≡ reading.Refused why → (r : ℕ) → r ≡ format.refusalNumber why → Answers file store sheet (answer.Refused r) store sheet
-  unfolding judged answers.answerFor sheet_left
-  reader_refuses why e r f = from_judged (reading.Refused why) e (refused (format.refusalNumber why)) refl (answer.Refused r) store sheet (ap {B = SittingAnswer} (λ (n : ℕ). answer.Refused n) f) refl refl
+  pub reader_refuses : (why : fault.Refusal) → read_of file ≡ reading.Refused why → (r : ℕ) → r ≡ format.refusal_number why → Answers file store sheet (answer.Refused r) store sheet
+  unfolding judged answers.answer_for sheet_left
+  reader_refuses why e r f = from_judged (reading.Refused why) e (refused (format.refusal_number why)) refl (answer.Refused r) store sheet (ap {B = SittingAnswer} (λ (n : ℕ). answer.Refused n) f) refl refl
 
   module _ (shape : Shape) (e : read_of file ≡ reading.Accepted shape) where
     abbrev its_lines : List Line
@@ -66,7 +66,7 @@ module _ (file store sheet : List ℕ) where
     -- a feed is refused
     pub feed_refused : (x : Ending) (why : Refusal) (n : ℕ) (store' : List ℕ) → x ≡ ending.Refused why → n ≡ refusal_number why → Feeds (ending_of x) store' (run_of file shape)
         → Answers file store sheet (answer.Refused n) store' sheet
-    unfolding answers.answerFor sheet_left
+    unfolding answers.answer_for sheet_left
     feed_refused x why n store' q r f = go (file_told file shape (accepted_holds file shape e))
       where
         ended : (run_of file shape).ending ≡ refused n

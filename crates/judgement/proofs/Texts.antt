@@ -27,18 +27,18 @@ use Rattle.judgement.specs.Prints.{lines_text, text_of, CanPrint, text_from, Pri
 use Rattle.judgement.specs.declared.SittingAnswer.{SittingAnswer}
 
 -- rows one after another, whatever follows them on the sheet
-rows_lines : (A : ℕ) (rs : List Row) (rest : List ℕ) → AllFit rs → rows_text A (length rs) (rows.sheetOf rs ++ rest) ≡ lines_text A rs
-unfolding rows_text rows.sheetOf lines_text
+rows_lines : (A : ℕ) (rs : List Row) (rest : List ℕ) → AllFit rs → rows_text A (length rs) (rows.sheet_of rs ++ rest) ≡ lines_text A rs
+unfolding rows_text rows.sheet_of lines_text
 rows_lines A [] rest f = refl
 rows_lines A (r ∷ rs) rest f =
-    ap (rows_text A (length (r ∷ rs))) (append_assoc (numbers_of r) (rows.sheetOf rs) rest)
-    ∙ rows_first A (length rs) (numbers_of r) (rows.sheetOf rs ++ rest) (let e = f.0.counts in omega arith)
+    ap (rows_text A (length (r ∷ rs))) (append_assoc (numbers_of r) (rows.sheet_of rs) rest)
+    ∙ rows_first A (length rs) (numbers_of r) (rows.sheet_of rs ++ rest) (let e = f.0.counts in omega arith)
     ∙ ap (λ (t : List ℕ). row_text A (numbers_of r) ++ t) (rows_lines A rs rest f.1)
 
-rows_long : (rs : List Row) → AllFit rs → length (rows.sheetOf rs) ≡ row_width * length rs
-unfolding rows.sheetOf
+rows_long : (rs : List Row) → AllFit rs → length (rows.sheet_of rs) ≡ row_width * length rs
+unfolding rows.sheet_of
 rows_long [] f = refl
-rows_long (r ∷ rs) f = omega (arith, f.0.counts, rows_long rs f.1, length-append (numbers_of r) (rows.sheetOf rs))
+rows_long (r ∷ rs) f = omega (arith, f.0.counts, rows_long rs f.1, length-append (numbers_of r) (rows.sheet_of rs))
 
 -- ---- a file that is reported on
 pub record Stands (file : List ℕ) (sheet : ℕ) (x : FileReport) : Type 0 where
@@ -78,7 +78,7 @@ module _ (file store sheet store' sheet' : List ℕ) (r : SittingAnswer) (a : An
           let s = stands file (length sheet) x e in
           let rs = x.report.rows in
           let rest = drop (row_width * (0 + length rs)) sheet in
-          omega (arith, s.fits, rows_long rs (fitting x s), length-append (rows.sheetOf rs) rest, length-drop (row_width * (0 + length rs)) sheet)
+          omega (arith, s.fits, rows_long rs (fitting x s), length-append (rows.sheet_of rs) rest, length-drop (row_width * (0 + length rs)) sheet)
 
   -- a sheet of 512 rows
   pub can_print : length sheet' ≡ sheet_numbers → CanPrint r sheet'

@@ -60,7 +60,7 @@ module _ (k : Desk) (costs : ByKind) (n : ℕ) (l kept : List ℕ) (top : ℕ) (
 
   mark_absent : held (key_of k.number s) (records n l) ≡ false → leaf_mark costs ≡ mark_at k.symbols c.left f s
   mark_absent off =
-      choosing.leaf-mark k.symbols f s costs (absent_losses k n l q.weighable costs q.priced s off)
+      choosing.leaf_mark_lem k.symbols f s costs (absent_losses k n l q.weighable costs q.priced s off)
       ∙ sym (mark_flat k.symbols f s q.weighable.some (absent_flat k n l q.weighable costs q.priced s off) c.left)
 
   mark_is : kept_mark n l kept costs c.key ≡ mark_at k.symbols c.left f s

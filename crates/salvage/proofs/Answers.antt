@@ -28,7 +28,7 @@ use Rattle.salvage.proofs.Keeping.{kept_begins, kept_fits}
 
 -- ---- a faulty header
 
-pub fault_stays : (damaged before : List ℕ) (why : file.Refusal) → header_of damaged ≡ Faulty why → Salvages damaged before (refused (format.refusalNumber why)) before
+pub fault_stays : (damaged before : List ℕ) (why : file.Refusal) → header_of damaged ≡ Faulty why → Salvages damaged before (refused (format.refusal_number why)) before
 unfolding salvage_of
 fault_stays damaged before why e = record {
   answers = sym (ap (λ (h : Heading). salvage_of h damaged (length before)) e);
@@ -120,4 +120,4 @@ module _ (damaged : List ℕ) (shape : Shape) (at : ℕ) (whole : header_of dama
     pub saved_by : (x : Writing) (lost : Lost) → lost ≡ saved.lost → Wrote (writing_outcome x) → Salvages damaged before (salvage_outcome (salvaged_by x lost) after) after × Within (salvaged_by x lost) after
     saved_by (writer.Length size) lost e w =
         (subst (λ (l : Lost). Salvages damaged before (answered (record { file = take size after; lost = l })) after) (sym e) (file_saved size w), fits size w)
-    saved_by (writer.Refused why) lost e w = (none_saved (writing.refusalNumber why) w, tt)
+    saved_by (writer.Refused why) lost e w = (none_saved (writing.refusal_number why) w, tt)

@@ -52,7 +52,7 @@ no_other damaged before after n w = go (header_of damaged) refl w.answers
     short true s e = number_same e
     short false s e = no_refusal refl (sym e)
 
-    go : (h : Heading) → header_of damaged ≡ h → refused n ≡ salvage_of h damaged (length before) → ((why : Refusal) × (header_of damaged ≡ Faulty why) × (n ≡ format.refusalNumber why)) ⊎ (n ≡ 19)
+    go : (h : Heading) → header_of damaged ≡ h → refused n ≡ salvage_of h damaged (length before) → ((why : Refusal) × (header_of damaged ≡ Faulty why) × (n ≡ format.refusal_number why)) ⊎ (n ≡ 19)
     go (Faulty why) q e = inl (why, q, number_same e)
     go (Whole shape at) q e = inr (short (ltb (length before) (length (saved_of shape (drop at damaged)).file)) (saved_of shape (drop at damaged)) e)
 
@@ -94,7 +94,7 @@ module _ (damaged : List ℕ) (bytes : Bytes damaged) (shape : Shape) (at : ℕ)
       omega (arith, long, first, second, there, header_long, shorter (length (first_kept shape body)) n x, shorter (length (second_kept shape body)) m y)
 
 -- no fault of a header is 19
-not_19 : (why : Refusal) → format.refusalNumber why ≡ 19 → ⊥
+not_19 : (why : Refusal) → format.refusal_number why ≡ 19 → ⊥
 not_19 EndsEarly e = omega (arith, e)
 not_19 NotShortest e = omega (arith, e)
 not_19 OutsideLimits e = omega (arith, e)

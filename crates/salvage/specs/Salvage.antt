@@ -72,17 +72,17 @@ saved_of shape body = saved_from shape (first_bytes shape body) (second_bytes sh
 
 -- "13 to 15 for the header, then 19 for a short buffer": of so many bytes
 abbrev pub salvage_lines : Heading → List ℕ → ℕ → List Line
-salvage_lines (Faulty why) damaged room = format.refusalNumber why when true ∷ []
+salvage_lines (Faulty why) damaged room = format.refusal_number why when true ∷ []
 salvage_lines (Whole shape at) damaged room = 19 when ltb room (length (saved_of shape (drop at damaged)).file) ∷ []
 
 -- "A header of four numbers that cannot be read within limits is refused as the reader does"; otherwise what is saved of the bytes after it
 unfoldable pub salvage_of : Heading → List ℕ → ℕ → Outcome Saved
-salvage_of (Faulty why) damaged room = refused (format.refusalNumber why)
+salvage_of (Faulty why) damaged room = refused (format.refusal_number why)
 salvage_of (Whole shape at) damaged room = verdict_of (salvage_lines (Whole shape at) damaged room) (saved_of shape (drop at damaged))
 
 -- the documents' number of each refusal
 abbrev pub refusal_number : Refusal → ℕ
-refusal_number (Header why) = format.refusalNumber why
+refusal_number (Header why) = format.refusal_number why
 refusal_number BufferShort = 19
 
 -- the answer where the writer's to what is kept is this: it refuses too few bytes alone

@@ -65,7 +65,7 @@ OnlySound = (damaged before after : List ℕ) (s : Saved) → Bytes damaged → 
 
 -- an answer to a file with such a fault in its header: the number that the reader gives the file, which is not 16
 pub record RefusedAsRead (damaged : List ℕ) (why : file.Refusal) (o : Outcome Saved) : Type 0 where
-  pub same_number : o ≡ refused (format.refusalNumber why)
+  pub same_number : o ≡ refused (format.refusal_number why)
   pub read_so : read_of damaged ≡ Refused why
   pub not_16 : why ≡ BytesLeft → ⊥
 
@@ -75,7 +75,7 @@ AsTheReader = (damaged before after : List ℕ) (o : Outcome Saved) → Salvages
 
 -- "13 to 15 for the header, then 19": a refusal is the header's fault, or 19
 abbrev pub NoOther : Type 0
-NoOther = (damaged before after : List ℕ) (n : ℕ) → Salvages damaged before (refused n) after → ((why : file.Refusal) × (header_of damaged ≡ Faulty why) × (n ≡ format.refusalNumber why)) ⊎ (n ≡ 19)
+NoOther = (damaged before after : List ℕ) (n : ℕ) → Salvages damaged before (refused n) after → ((why : file.Refusal) × (header_of damaged ≡ Faulty why) × (n ≡ format.refusal_number why)) ⊎ (n ≡ 19)
 
 -- as many bytes as the damaged file has are never too few
 abbrev pub NeverLonger : Type 0

@@ -31,13 +31,13 @@ above_zero SheetShort = omega arith
 above_zero WeightOutside = omega arith
 above_zero SampleShort = omega arith
 
-pub fault_above_zero : (why : file.Refusal) → 0 < format.refusalNumber why
+pub fault_above_zero : (why : file.Refusal) → 0 < format.refusal_number why
 fault_above_zero fault.EndsEarly = omega arith
 fault_above_zero fault.NotShortest = omega arith
 fault_above_zero fault.OutsideLimits = omega arith
 fault_above_zero fault.BytesLeft = omega arith
 
-pub writing_above_zero : (why : writer.Refusal) → 0 < writing.refusalNumber why
+pub writing_above_zero : (why : writer.Refusal) → 0 < writing.refusal_number why
 writing_above_zero unwritten.BadValues = omega arith
 writing_above_zero unwritten.BufferShort = omega arith
 

@@ -72,7 +72,7 @@ module _ {s : List ℕ} {d place : ℕ} {before after : List ℕ} {rows : ℕ} {
 
 -- ---- a file
 module _ {bytes old : List ℕ} (x : Reading) (p : x ≡ read_of bytes) where
-  pub read_refused : {why : file.Refusal} {r : ℕ} → x ≡ reading.Refused why → r ≡ format.refusalNumber why → ReadTold bytes r old old
+  pub read_refused : {why : file.Refusal} {r : ℕ} → x ≡ reading.Refused why → r ≡ format.refusal_number why → ReadTold bytes r old old
   read_refused e n =
       let e' = sym p ∙ e in
       record { number = n ∙ sym (ap read_code e'); output = sym (ap (λ (a : Reading). shape_after a old) e') }
@@ -84,7 +84,7 @@ module _ {bytes old : List ℕ} (x : Reading) (p : x ≡ read_of bytes) where
 
 -- ---- a file written
 module _ {A D : ℕ} {xs ys before after : List ℕ} {old : ℕ} (x : Writing) (p : WritesFile A D xs ys before (writing_outcome x) after) where
-  pub write_refused : {why : writer.Refusal} {r : ℕ} → x ≡ put.Refused why → r ≡ writing.refusalNumber why → WriteTold A D xs ys before r after old old
+  pub write_refused : {why : writer.Refusal} {r : ℕ} → x ≡ put.Refused why → r ≡ writing.refusal_number why → WriteTold A D xs ys before r after old old
   write_refused e n = record {
     answer = x;
     promise = p;

@@ -81,8 +81,8 @@ module _ {k : Desk} {costs : ByKind} {n : ℕ} {l old : List ℕ} {c : Context} 
 
     pub turns_end : {o : ByKind} → LossesOf (count_table (record_at p l)) costs o → {new : List ℕ} {r : Weighed} → SplitHere o p children cur new r → Visited k n l s c.left p old new r
     turns_end {o} lost {new} {r} w = subst₂ (λ (d : ℕ) (after : List ℕ). Visited k n l s d p old after r) back (sym w.mark) (record {
-      least = choosing.split-least k.symbols f s o is (c.left - 1) children less some r w.is;
-      rows = choosing.split-members k.symbols f s o is (c.left - 1) children less some r w.is;
+      least = choosing.split_least k.symbols f s o is (c.left - 1) children less some r w.is;
+      rows = choosing.split_members k.symbols f s o is (c.left - 1) children less some r w.is;
       past = w.is.onward ∙ t.place ∙ last a refl;
       marked = rw w.is.onward (written_mark k n l p children.next (split_mark o children.least) old cur long here.0 mark_is t.marked);
       apart = rw w.is.onward (written_apart k n l p children.next (split_mark o children.least) old cur long here.0 mark_is (omega (arith, t.onward)) t.apart);
@@ -98,4 +98,4 @@ module _ {k : Desk} {costs : ByKind} {n : ℕ} {l old : List ℕ} {c : Context} 
         here = there v
 
         mark_is : split_mark o children.least ≡ mark_of k.symbols k.depth f (get_or l (width * p) 0)
-        mark_is = mark_there v (suc (c.left - 1)) (split_mark o children.least) (omega (arith, back, q.left_is)) (choosing.split-mark k.symbols f s o is (c.left - 1) children less some)
+        mark_is = mark_there v (suc (c.left - 1)) (split_mark o children.least) (omega (arith, back, q.left_is)) (choosing.split_mark_lem k.symbols f s o is (c.left - 1) children less some)

@@ -74,7 +74,7 @@ module _ {k : Desk} {costs : ByKind} {n : ℕ} {l old : List ℕ} {c : Context} 
     child_ready = record {
       weighable = q.weighable;
       priced = q.priced;
-      context = steps.child-context q more a lt;
+      context = steps.child_context q more a lt;
       key_is = child_key;
       span_is = let e : 7 - length (older s a) ≡ suc (steps.after s) = omega (arith, length-append s (a ∷ []), steps.room q more) in steps.step_is q more ∙ rw e;
       left_is = let z = more in omega (arith, length-append s (a ∷ []), q.left_is);
@@ -82,13 +82,13 @@ module _ {k : Desk} {costs : ByKind} {n : ℕ} {l old : List ℕ} {c : Context} 
     }
 
     child_is : context_of child ≡ older s a
-    child_is = ap context_of child_key ∙ context_of_key k.number (older s a) (within k n l q.weighable (older s a) (steps.child-context q more a lt))
+    child_is = ap context_of child_key ∙ context_of_key k.number (older s a) (within k n l q.weighable (older s a) (steps.child_context q more a lt))
 
     pub child_stands : Standing n l × Placed child n children.next l
     child_stands = stands child_ready
 
     pub child_fits : child + c.span / 8 < 2 ^ 32
-    child_fits = omega (arith, t.child_is, steps.step_small q more a lt, steps.key-small q more)
+    child_fits = omega (arith, t.child_is, steps.step_small q more a lt, steps.key_small q more)
 
     -- a child that is held can be visited ..
     pub can_visit : held child (records n l) ≡ true → CanVisit k costs n l cur below children.next
@@ -138,7 +138,7 @@ module _ {k : Desk} {costs : ByKind} {n : ℕ} {l old : List ℕ} {c : Context} 
           -- a visit does not go back
           further : children.next ≤ w.next
           further =
-              let o = within k n l q.weighable (older s a) (steps.child-context q more a lt) in
+              let o = within k n l q.weighable (older s a) (steps.child_context q more a lt) in
               rw (g.past, t.place ∙ turn_at k n l q.weighable s q.context (steps.after s) (steps.room q more) (steps.deeper q more) a lt)
               (rank_mono (key_of k.number (older s a)) (end_of k.number (older s a)) (keys (records n l)) (omega (arith, block_key k.number (older s a) (older s a) o o (begins_self (older s a)))))
 

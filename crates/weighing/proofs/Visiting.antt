@@ -66,8 +66,8 @@ module _ {k : Desk} {costs : ByKind} {n : ℕ} {l s : List ℕ} {c : Context} {p
   -- ---- a context that is not held
   pub answer_absent : held c.key (records n l) ≡ false → (old : List ℕ) {r : Weighed} → LeafOf costs p r → Visited k n l s c.left p old old r
   answer_absent absent old {r} g = record {
-    least = choosing.absent-least k.symbols f s costs bare p r g q.weighable.some unseen c.left;
-    rows = choosing.absent-members k.symbols f s costs bare p r g q.weighable.some unseen c.left;
+    least = choosing.absent_least k.symbols f s costs bare p r g q.weighable.some unseen c.left;
+    rows = choosing.absent_members k.symbols f s costs bare p r g q.weighable.some unseen c.left;
     past = g.onward ∙ q.place ∙ past_absent k n l q.weighable s q.context off;
     marked = record { is = λ j lo hi. absurd (omega (arith, g.onward)) };
     apart = apart_none p r.next old;
@@ -134,8 +134,8 @@ module _ {k : Desk} {costs : ByKind} {n : ℕ} {l old : List ℕ} {c : Context} 
   -- with no symbol left
   pub answer_leaf : {o : ByKind} → LossesOf (count_table (record_at p l)) costs o → c.left ≡ 0 → {new : List ℕ} {r : Weighed} → LeafHere o p old new r → Visited k n l s c.left p old new r
   answer_leaf {o} lost z {new} {r} w = subst₂ (λ (d : ℕ) (after : List ℕ). Visited k n l s d p old after r) (sym z) (sym w.mark) (record {
-    least = choosing.leaf-least k.symbols (f q) s o is (p + 1) r w.is;
-    rows = choosing.leaf-members k.symbols (f q) s o is (p + 1) r w.is;
+    least = choosing.leaf_least k.symbols (f q) s o is (p + 1) r w.is;
+    rows = choosing.leaf_members k.symbols (f q) s o is (p + 1) r w.is;
     past = w.is.onward ∙ past_own ∙ past_deepest k n l q.weighable s q.context (omega (arith, q.left_is));
     marked = written_mark k n l p r.next (leaf_mark o) old old v.beside there.0 mark (record { is = λ j lo hi. absurd (omega (arith, w.is.onward)) });
     apart = written_apart k n l p r.next (leaf_mark o) old old v.beside there.0 mark (omega (arith, w.is.onward)) (apart_none (p + 1) r.next old);
@@ -145,4 +145,4 @@ module _ {k : Desk} {costs : ByKind} {n : ℕ} {l old : List ℕ} {c : Context} 
       is = own_losses lost
 
       mark : leaf_mark o ≡ mark_of k.symbols k.depth (f q) (get_or l (width * p) 0)
-      mark = mark_there 0 (leaf_mark o) (omega (arith, q.left_is)) (choosing.leaf-mark k.symbols (f q) s o is)
+      mark = mark_there 0 (leaf_mark o) (omega (arith, q.left_is)) (choosing.leaf_mark_lem k.symbols (f q) s o is)

@@ -6,9 +6,10 @@ use lib.ListN.{length}
 use Rattle.sitting_file.proofs.AcceptedFile.{accepted_holds}
 use Rattle.judgement.proofs.Seating.{file_fed}
 use Rattle.answering.proofs.feed_file.Goals as goal
+use Rattle.answering.proofs.feed_file.Goals.{Start}
 
 -- the file is as long as its samples
-enough : (s : goal.Start) → s.args.shape.first-1 + s.args.shape.second-1 ≤ length s.args.file.now
+enough : (s : Start) → s.args.shape.first-1 + s.args.shape.second-1 ≤ length s.args.file.now
 enough s = (accepted_holds s.args.file.now s.args.shape s.requires.0).enough
 
 pub overflow_sub-from : goal.overflow_sub-from

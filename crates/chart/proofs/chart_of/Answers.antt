@@ -8,7 +8,7 @@ use Rattle.chart.proofs.chart_of.Goals as goal
 
 pub returns : goal.returns
 returns c =
-    let count = count_in c.args.t1 in
+    let count = count_in c.args.counts in
     let a = c.args.symbol in
     c.compared.ensures
     ∙ ap₂ (λ (t u : ℕ). answer (count first a) t (count second a) u) c.total_of.ensures c.total_of-2.ensures

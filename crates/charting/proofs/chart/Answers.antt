@@ -17,22 +17,23 @@ use Rattle.calls.proofs.Keeping.{asks_unsound}
 use Rattle.charting.specs.Naming.{named}
 use Rattle.charting.proofs.Verdicts.{asks_no_desk, asks_shut, asks_symbol, asks_length, Asked, asks_code, key_readable, asks_chart}
 use Rattle.charting.proofs.chart.Goals as goal
+use Rattle.charting.proofs.chart.Goals.{After-key_of, Else-field_at-length, Else-field_at-ne1, Else-not-sound, Else-not-sound,}
 
 -- past the first test the store is sound
-sound-here : (c : goal.Else-not-sound) → soundb c.args.store.now ≡ true
+sound-here : (c : Else-not-sound) → soundb c.args.store.now ≡ true
 sound-here c = sym c.sound.ensures ∙ not-false _ c.if-not-sound.false
 
-header-here : (c : goal.Else-not-sound) → header_size ≤ length c.args.store.now
+header-here : (c : Else-not-sound) → header_size ≤ length c.args.store.now
 header-here c = omega (arith, (passed c.args.store.now (sound-here c)).framed.long)
 
 -- past the third the desk is open
-open-here : (c : goal.Else-field_at-ne1) → let x = c.args in Open x.store.now x.desk
+open-here : (c : Else-field_at-ne1) → let x = c.args in Open x.store.now x.desk
 open-here c =
     let x = c.args in
     record { desk = omega arith; opened = eq→eqb (field x.store.now x.desk 0) 1 (sym c.field_at.ensures ∙ c.if-field_at-ne1.false) }
 
 -- past the fifth only the code is still to be read
-asked_here : (c : goal.Else-field_at-length) → let x = c.args in Asked x.store.now x.desk x.length x.symbol
+asked_here : (c : Else-field_at-length) → let x = c.args in Asked x.store.now x.desk x.length x.symbol
 asked_here c = record {
   sound = sound-here c.before.before.before.before.before.before.before;
   at_open = open-here c.before.before.before.before;
@@ -41,7 +42,7 @@ asked_here c = record {
 }
 
 -- what was named, over the desk's alphabet
-named_here : (c : goal.After-key_of)
+named_here : (c : After-key_of)
     → let x = c.args in named (symbols_at x.store.now x.desk) x.desk x.length x.code ≡ c.key_of.result
 named_here c = rw c.field_at-symbols.ensures at (sym c.key_of.ensures)
 

@@ -10,6 +10,7 @@ use Rattle.records.proofs.Lent.{tail_lent}
 use Rattle.chart.specs.Answer.{chart_in}
 use Rattle.store.specs.Layout.{header_size, records_in}
 use Rattle.charting.proofs.chart_under.Goals as goal
+use Rattle.charting.proofs.chart_under.Goals.{After-table_of}
 
 pub overflow_cast-many : goal.overflow_cast-many
 overflow_cast-many c = omega (arith, c.shared_slice_known-2-1.given 1)
@@ -18,7 +19,7 @@ pub table_of-requires : goal.table_of-requires
 table_of-requires c = rw (tail_lent header_size c.args.store.now) c.requires.standing
 
 -- the part that was lent is the store's from the header on
-counts_are : (c : goal.After-table_of) → c.table_of.result ≡ count_table (lookup c.args.key (records_in c.args.store.now))
+counts_are : (c : After-table_of) → c.table_of.result ≡ count_table (lookup c.args.key (records_in c.args.store.now))
 unfolding records_in
 counts_are c = rw (tail_lent header_size c.args.store.now) at c.table_of.ensures
 

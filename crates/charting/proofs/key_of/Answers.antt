@@ -5,6 +5,7 @@ use Rattle.numbers.specs.Limits.{desks}
 use Rattle.contexts.specs.Keys.{desk_span}
 use Rattle.charting.proofs.CodeWalk.{Unread, unread_start, unread_on, unread_fits, unread_outside, unread_longer, unread_end}
 use Rattle.charting.proofs.key_of.Goals as goal
+use Rattle.charting.proofs.key_of.Goals.{After-eights_of}
 
 pub loop-left-init : goal.loop-left-init
 loop-left-init c = let x = c.args in unread_start x.symbols x.desk x.length x.code c.requires.1
@@ -22,7 +23,7 @@ pub eights_of-requires : goal.eights_of-requires
 eights_of-requires c = omega (arith, c.loop-left.invariant.within)
 
 -- the longer key fits, by the eights that was worked out
-next_fits : (c : goal.After-eights_of) → c.loop-left.key + (c.loop-left.rest % 8 * c.eights_of.result + 1) < desks * desk_span
+next_fits : (c : After-eights_of) → c.loop-left.key + (c.loop-left.rest % 8 * c.eights_of.result + 1) < desks * desk_span
 next_fits c =
     let x = c.args in
     let at = c.loop-left in

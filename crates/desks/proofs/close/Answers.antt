@@ -13,8 +13,9 @@ use Rattle.store.proofs.Passing.{header_long}
 use Rattle.calls.proofs.Keeping.{moves_unsound}
 use Rattle.changes.proofs.Shutting.{close_no_desk, close_not_open, closed_moves}
 use Rattle.desks.proofs.close.Goals as goal
+use Rattle.desks.proofs.close.Goals.{After-sound, After-sound,, Else-not-sound}
 
-passed : (c : goal.Else-not-sound) → soundb c.args.store-1.now ≡ true
+passed : (c : Else-not-sound) → soundb c.args.store.now ≡ true
 passed c = sym c.sound.ensures ∙ not-false _ c.if-not-sound.false
 
 pub returns-then-not-sound : goal.returns-then-not-sound

@@ -18,13 +18,14 @@ use Rattle.calls.proofs.Keeping.{moves_unsound, moves_refused}
 use Rattle.changes.proofs.Granting.{no_desk, outside, heavy}
 use Rattle.changes.proofs.Vacant.{shut_there, open_there}
 use Rattle.desks.proofs.open.Goals as goal
+use Rattle.desks.proofs.open.Goals.{After-sound, After-sound;, Else-field_at-eq1, Else-field_at-eq1;, Else-not-sound}
 
 -- ---- what each test has told
 
-passed : (c : goal.Else-not-sound) → soundb c.args.store-1.now ≡ true
+passed : (c : Else-not-sound) → soundb c.args.store.now ≡ true
 passed c = sym c.sound.ensures ∙ not-false _ c.if-not-sound.false
 
-shut : (c : goal.Else-field_at-eq1) → (let x = c.args in Open x.store-1.now x.desk → ⊥)
+shut : (c : Else-field_at-eq1) → (let x = c.args in Open x.store-1.now x.desk → ⊥)
 shut c o =
     let x = c.args in
     let not-one : field x.store-1.now x.desk 0 ≡ 1 → ⊥ = omega arith in

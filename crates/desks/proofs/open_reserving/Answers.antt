@@ -11,8 +11,9 @@ use Rattle.changes.proofs.Granting.{zero_reserved, above_room, above_left}
 use Rattle.changes.proofs.Vacant.{ready_there, room_made_lem}
 use Rattle.changes.proofs.Beginning.{opened_moves}
 use Rattle.desks.proofs.open_reserving.Goals as goal
+use Rattle.desks.proofs.open_reserving.Goals.{After-slice_known-1, After-slice_known-1;, Else-reservation-eq0}
 
-some : (c : goal.Else-reservation-eq0) → 1 ≤ c.args.reservation
+some : (c : Else-reservation-eq0) → 1 ≤ c.args.reservation
 some c = let n = c.if-reservation-eq0.false in omega arith
 
 pub returns-then-reservation-eq0 : goal.returns-then-reservation-eq0
@@ -23,7 +24,7 @@ returns-then-reservation-eq0 c =
     moves_refused x.store-1.now (at_desk x.desk (opening o)) 6 p.sound (zero_reserved (meaning x.store-1.now) x.desk o (ready_there x.store-1.now x.desk o p) c.if-reservation-eq0.true)
 
 pub bounds-store-0 : goal.bounds-store-0
-bounds-store-0 c = omega (arith, header_long c.args.store-1.now c.requires.sound)
+bounds-store-0 c = omega (arith, header_long c.args.store.now c.requires.sound)
 
 pub returns-then-room-reservation : goal.returns-then-room-reservation
 returns-then-room-reservation c =
@@ -45,7 +46,7 @@ returns-then-free-reservation c =
 
 pub set_up-requires : goal.set_up-requires
 set_up-requires c =
-    (header_long c.args.store-1.now c.requires.sound, c.requires.desk)
+    (header_long c.args.store.now c.requires.sound, c.requires.desk)
 
 pub returns : goal.returns
 returns c =

@@ -10,8 +10,9 @@ use Rattle.store.specs.Sound.{soundb}
 use Rattle.calls.proofs.Keeping.{asks_unsound, asks_answered}
 use Rattle.changes.proofs.Leaving.{asked_room}
 use Rattle.desks.proofs.room_left.Goals as goal
+use Rattle.desks.proofs.room_left.Goals.{Else-not-sound}
 
-passed : (c : goal.Else-not-sound) → soundb c.args.store.now ≡ true
+passed : (c : Else-not-sound) → soundb c.args.store.now ≡ true
 passed c = sym c.sound.ensures ∙ not-false _ c.if-not-sound.false
 
 pub returns-then-not-sound : goal.returns-then-not-sound

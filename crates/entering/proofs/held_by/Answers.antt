@@ -10,8 +10,9 @@ use Rattle.records.proofs.Rising.{rank_same}
 use Rattle.entering.proofs.Asking.{desk_many}
 use borrow.Author.Rules.{rules}
 use Rattle.entering.proofs.held_by.Goals as goal
+use Rattle.entering.proofs.held_by.Goals.{After-place_from}
 
-many : (c : goal.After-place_from) → (let x = c.args in
+many : (c : After-place_from) → (let x = c.args in
     (x.first ≤ c.place_from.result) × (c.place_from.result - x.first ≡ length (keep (of_desk x.desk) (records x.n x.numbers.now))))
 many c =
     let x = c.args in

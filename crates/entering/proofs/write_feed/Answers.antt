@@ -6,16 +6,16 @@ use Rattle.entering.proofs.Writing.{lent_ready, count_fits, note_asks, written}
 use Rattle.entering.proofs.write_feed.Goals as goal
 
 pub bounds-store-1 : goal.bounds-store-1
-bounds-store-1 c = omega (arith, header_long c.args.store-1.now c.requires.0.sound)
+bounds-store-1 c = omega (arith, header_long c.args.store.now c.requires.0.sound)
 
 pub overflow_cast-many : goal.overflow_cast-many
 overflow_cast-many c = omega (arith, c.slice_known-2-1.given 1)
 
 pub slice_bounds-body-count : goal.slice_bounds-body-count
-slice_bounds-body-count c = omega (arith, header_long c.args.store-1.now c.requires.0.sound)
+slice_bounds-body-count c = omega (arith, header_long c.args.store.now c.requires.0.sound)
 
 pub slice_bounds-body-start : goal.slice_bounds-body-start
-slice_bounds-body-start c = omega (arith, header_long c.args.store-1.now c.requires.0.sound)
+slice_bounds-body-start c = omega (arith, header_long c.args.store.now c.requires.0.sound)
 
 pub feed_records-count-requires : goal.feed_records-count-requires
 feed_records-count-requires c =

@@ -6,7 +6,7 @@ use Rattle.entering.proofs.Writing.{header_asks, header_written}
 use Rattle.entering.proofs.write_header.Goals as goal
 
 pub bounds-store-1 : goal.bounds-store-1
-bounds-store-1 c = omega (arith, header_long c.args.store-1.now c.requires.0.sound)
+bounds-store-1 c = omega (arith, header_long c.args.store.now c.requires.0.sound)
 
 pub note_at-requires : goal.note_at-requires
 note_at-requires c =

@@ -6,23 +6,23 @@ use Rattle.estimate.proofs.losses_of.Goals as goal
 pub spread_of-requires : goal.spread_of-requires
 spread_of-requires c =
     let g = c.sums_of-sums in
-    let h = adding.shared-able c.args.counts c.requires.1 g.result g.ensures in
+    let h = adding.shared_able c.args.counts c.requires.1 g.result g.ensures in
     (c.requires.0, h.0, h.1)
 
 pub spread_of-requires-2 : goal.spread_of-requires-2
 spread_of-requires-2 c =
     let g = c.sums_of-sums in
-    let h = adding.first-able c.args.counts c.requires.1 g.result g.ensures in
+    let h = adding.first_able c.args.counts c.requires.1 g.result g.ensures in
     (c.requires.0, h.0, h.1)
 
 pub spread_of-requires-3 : goal.spread_of-requires-3
 spread_of-requires-3 c =
     let g = c.sums_of-sums in
-    let h = adding.second-able c.args.counts c.requires.1 g.result g.ensures in
+    let h = adding.second_able c.args.counts c.requires.1 g.result g.ensures in
     (c.requires.0, h.0, h.1)
 
 pub returns : goal.returns
 returns c =
     let g = c.sums_of-sums in
-    adding.losses-are c.args.counts c.requires.1 g.result g.ensures c.args.costs c.spread_of.result c.spread_of-2.result c.spread_of-3.result
+    adding.losses_are c.args.counts c.requires.1 g.result g.ensures c.args.costs c.spread_of.result c.spread_of-2.result c.spread_of-3.result
     c.spread_of.ensures.0 c.spread_of-2.ensures.0 c.spread_of-3.ensures.0

@@ -20,7 +20,7 @@ loop-a-init c = (omega arith, sums_none _)
 
 pub and_symbol-sums-requires : goal.and_symbol-sums-requires
 and_symbol-sums-requires c =
-    (c.requires.0, addable c.args.t2 c.requires.1 c.loop-a.a c.loop-a.sums c.loop-a-test.true (again c.args.t2 c.loop-a.invariant.1))
+    (c.requires.0, addable c.args.counts c.requires.1 c.loop-a.a c.loop-a.sums c.loop-a-test.true (again c.args.counts c.loop-a.invariant.1))
 
 pub loop-a-preserved : goal.loop-a-preserved
 loop-a-preserved c =
@@ -29,7 +29,7 @@ loop-a-preserved c =
 
 pub returns : goal.returns
 returns c =
-    let t = c.args.t2 in
+    let t = c.args.counts in
     let m = c.loop-a in
     let e : m.a ≡ most_symbols = omega (arith, m.invariant.0, c.loop-a-test.false) in
     again t (subst (λ (a : ℕ). SumsOf a (get_or t 0 [] ∷ get_or t 1 [] ∷ []) m.sums) e m.invariant.1)

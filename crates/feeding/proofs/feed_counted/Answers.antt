@@ -8,9 +8,10 @@ use Rattle.contexts.specs.Sitting.{sample_of}
 use Rattle.changes.specs.FedStore.{recent_at}
 use Rattle.entering.proofs.Copying.{copied_recent}
 use Rattle.feeding.proofs.feed_counted.Goals as goal
+use Rattle.feeding.proofs.feed_counted.Goals.{After-recent_of-latest}
 
 -- the first `many` of the six places are the recent symbols
-latest : (c : goal.After-recent_of-latest) → (let r = c.recent_of-latest.result in let x = c.args in
+latest : (c : After-recent_of-latest) → (let r = c.recent_of-latest.result in let x = c.args in
     (r.many ≤ length r.symbols-1) × (take r.many r.symbols-1 ≡ recent_at x.store-1.now x.desk (sample_of x.sample)))
 latest c =
     let r = c.recent_of-latest.result in

@@ -7,8 +7,9 @@ use Rattle.store.specs.Plain.{Open}
 use Rattle.store.proofs.Passing.{field_readable}
 use Rattle.feeding.proofs.Refusing.{opened, refused_desk, refused_open, refused_sample, refused_symbol, refused_full, judged}
 use Rattle.feeding.proofs.feed_sound.Goals as goal
+use Rattle.feeding.proofs.feed_sound.Goals.{After-field_at, Else-d-ge-DESKS, Else-field_at-ne1}
 
-open_there : (c : goal.Else-field_at-ne1) → (let x = c.args in Open x.store-1.now x.desk)
+open_there : (c : Else-field_at-ne1) → (let x = c.args in Open x.store-1.now x.desk)
 open_there c =
     let x = c.args in
     opened x.store-1.now x.desk c.field_at.result c.if-d-ge-DESKS.false c.field_at.ensures c.if-field_at-ne1.false

@@ -49,13 +49,13 @@ write-from-on t c = sym c.before.goes_on.ensures ∙ not-false _ c.if1.false
 
 -- .. so symbols are left
 write-from-more : (t : ℕ) (c : write-from-lts.Else1 (write-from-calls t) (write-from-at t) write-from.Post write-from-Inv-loop write-from-μ-loop) → c.before.before.before.before.before.before.before.before.before.before.before.before.args.spot.left ≡ 0 → ⊥
-write-from-more t c = let s = c.before.before.before.before.before.before.before.before.before.before.before.before in let x = s.args in let h = c.before.before.before.before.before.write-here in reporting.symbols-left x.desk x.costs x.n x.numbers.now x.kept.now (length x.sheet.now) (context_of x.spot.key) x.spot x.to s.requires.1 x.sheet.now h.new.1.1.1.1.0 h.result h.ensures (write-from-on t c)
+write-from-more t c = let s = c.before.before.before.before.before.before.before.before.before.before.before.before in let x = s.args in let h = c.before.before.before.before.before.write-here in reporting.symbols_left x.desk x.costs x.n x.numbers.now x.kept.now (length x.sheet.now) (context_of x.spot.key) x.spot x.to s.requires.1 x.sheet.now h.new.1.1.1.1.0 h.result h.ensures (write-from-on t c)
 
 write-from-sub-write-here : (t : ℕ) → write-from-lts.Need-overflow-sub-write-here (write-from-calls t) (write-from-at t) write-from.Post write-from-Inv-loop write-from-μ-loop
 write-from-sub-write-here t c = let s = c.before.before.before.before.before.before in let x = s.args in omega (arith, s.requires.1.left_is)
 
 write-from-write-here-requires : (t : ℕ) → write-from-lts.Need-write-here-requires (write-from-calls t) (write-from-at t) write-from.Post write-from-Inv-loop write-from-μ-loop
-write-from-write-here-requires t c κs = let s = c.before.before.before.before.before.before in let x = s.args in reporting.can-here x.desk x.costs x.n x.numbers.now x.kept.now (length x.sheet.now) (context_of x.spot.key) x.spot x.to s.requires.1
+write-from-write-here-requires t c κs = let s = c.before.before.before.before.before.before in let x = s.args in reporting.can_here x.desk x.costs x.n x.numbers.now x.kept.now (length x.sheet.now) (context_of x.spot.key) x.spot x.to s.requires.1
 
 write-from-goes-on-requires : (t : ℕ) → write-from-lts.Need-goes-on-requires (write-from-calls t) (write-from-at t) write-from.Post write-from-Inv-loop write-from-μ-loop
 write-from-goes-on-requires t c κs = tt
@@ -70,28 +70,28 @@ write-from-add-key : (t : ℕ) → write-from-lts.Need-overflow-add-key (write-f
 write-from-add-key t c = let s = c.before.before.before.before.before.before.before.before.before.before.before.before.before.before in let x = s.args in record { fits = onward.key_fits x.desk x.costs x.n x.numbers.now x.kept.now (length x.sheet.now) (context_of x.spot.key) x.spot x.to s.requires.1 (write-from-more t c.before.before) }
 
 write-from-loop-holds : (t : ℕ) → write-from-lts.Need-loop-init (write-from-calls t) (write-from-at t) write-from.Post write-from-Inv-loop write-from-μ-loop
-write-from-loop-holds t c = let s = c.before.before.before.before.before.before.before.before.before.before.before.before.before.before in let x = s.args in let h = c.before.before.before.before.before.before.before.write-here in (refl, onward.onward-begin x.desk x.costs x.n x.numbers.now x.kept.now (length x.sheet.now) (context_of x.spot.key) x.spot x.to s.requires.1 (write-from-more t c.before.before) h.result.way h.result.to h.new.1.1.1.1.0)
+write-from-loop-holds t c = let s = c.before.before.before.before.before.before.before.before.before.before.before.before.before.before in let x = s.args in let h = c.before.before.before.before.before.before.before.write-here in (refl, onward.onward_begin x.desk x.costs x.n x.numbers.now x.kept.now (length x.sheet.now) (context_of x.spot.key) x.spot x.to s.requires.1 (write-from-more t c.before.before) h.result.way h.result.to h.new.1.1.1.1.0)
 
 write-from-sub-left : (t : ℕ) → write-from-lts.Need-overflow-sub-left (write-from-calls t) (write-from-at t) write-from.Post write-from-Inv-loop write-from-μ-loop
 write-from-sub-left t c = omega (arith, write-from-more t c.before.before.before.before.before.before)
 
 write-from-mul-power : (t : ℕ) → write-from-lts.Need-overflow-mul-power (write-from-calls t) (write-from-at t) write-from.Post write-from-Inv-loop write-from-μ-loop
-write-from-mul-power t c = let s = c.before.before.before.before.before.before.before.before.before.before.before.before.before.before.before.before.before.before.before in let x = s.args in record { fits = onward.power-fits x.desk x.costs x.n x.numbers.now x.kept.now (length x.sheet.now) (context_of x.spot.key) x.spot x.to s.requires.1 (write-from-more t c.before.before.before.before.before.before.before) }
+write-from-mul-power t c = let s = c.before.before.before.before.before.before.before.before.before.before.before.before.before.before.before.before.before.before.before in let x = s.args in record { fits = onward.power_fits x.desk x.costs x.n x.numbers.now x.kept.now (length x.sheet.now) (context_of x.spot.key) x.spot x.to s.requires.1 (write-from-more t c.before.before.before.before.before.before.before) }
 
 write-from-write-from-requires : (t : ℕ) → write-from-lts.Need-write-from-requires (write-from-calls t) (write-from-at t) write-from.Post write-from-Inv-loop write-from-μ-loop
 write-from-write-from-requires t c κs = let s = c.before.before.before.before.before.before.before.before.before.before.before.before.before.before.before.before.before.before.before.before in let x = s.args in let h = c.before.before.before.before.before.before.before.before.before.before.before.before.before.write-here in let m = c.before.before.before.before.before.loop in
     let lt = c.before.before.before.if2.true in
     let long : length m.sheet ≡ length x.sheet.now = m.invariant.0 ∙ h.auto.1.1.1.1.0 in (
       omega (arith, s.requires.0, write-from-more t c.before.before.before.before.before.before.before.before),
-      subst₂ (λ (top : ℕ) (u : List ℕ). CanWrite x.desk x.costs x.n x.numbers.now x.kept.now top u (record { key = m.key; span = x.spot.span / 8; left = x.spot.left - 1; code = m.code; power = 8 * x.spot.power; way = h.result.way }) m.past) (sym long) (sym (onward.onward-is x.desk x.costs x.n x.numbers.now x.kept.now (length x.sheet.now) (context_of x.spot.key) x.spot x.to s.requires.1 (write-from-more t c.before.before.before.before.before.before.before.before) h.result.way h.result.to m.a m.key m.code h.new.1.1.1.1.0 m.sheet m.past m.invariant.1 lt))
-          (onward.onward-can x.desk x.costs x.n x.numbers.now x.kept.now (length x.sheet.now) (context_of x.spot.key) x.spot x.to s.requires.1 (write-from-more t c.before.before.before.before.before.before.before.before) h.result.way h.result.to m.a m.key m.code h.new.1.1.1.1.0 m.sheet m.past m.invariant.1 lt (reporting.child-room x.desk x.costs x.n x.numbers.now x.kept.now (length x.sheet.now) (context_of x.spot.key) x.spot x.to s.requires.1 x.sheet.now h.new.1.1.1.1.0 h.result h.ensures (write-from-on t c.before.before.before.before.before.before.before.before))),
+      subst₂ (λ (top : ℕ) (u : List ℕ). CanWrite x.desk x.costs x.n x.numbers.now x.kept.now top u (record { key = m.key; span = x.spot.span / 8; left = x.spot.left - 1; code = m.code; power = 8 * x.spot.power; way = h.result.way }) m.past) (sym long) (sym (onward.onward_is x.desk x.costs x.n x.numbers.now x.kept.now (length x.sheet.now) (context_of x.spot.key) x.spot x.to s.requires.1 (write-from-more t c.before.before.before.before.before.before.before.before) h.result.way h.result.to m.a m.key m.code h.new.1.1.1.1.0 m.sheet m.past m.invariant.1 lt))
+          (onward.onward_can x.desk x.costs x.n x.numbers.now x.kept.now (length x.sheet.now) (context_of x.spot.key) x.spot x.to s.requires.1 (write-from-more t c.before.before.before.before.before.before.before.before) h.result.way h.result.to m.a m.key m.code h.new.1.1.1.1.0 m.sheet m.past m.invariant.1 lt (reporting.child_room x.desk x.costs x.n x.numbers.now x.kept.now (length x.sheet.now) (context_of x.spot.key) x.spot x.to s.requires.1 x.sheet.now h.new.1.1.1.1.0 h.result h.ensures (write-from-on t c.before.before.before.before.before.before.before.before))),
     )
 
 write-from-add-key-2 : (t : ℕ) → write-from-lts.Need-overflow-add-key-2 (write-from-calls t) (write-from-at t) write-from.Post write-from-Inv-loop write-from-μ-loop
-write-from-add-key-2 t c = let s = c.before.before.before.before.before.before.before.before.before.before.before.before.before.before.before.before.before.before.before.before.before.before.before in let x = s.args in let h = c.before.before.before.before.before.before.before.before.before.before.before.before.before.before.before.before.write-here in let m = c.before.before.before.before.before.before.before.before.loop in record { fits = onward.onward-key x.desk x.costs x.n x.numbers.now x.kept.now (length x.sheet.now) (context_of x.spot.key) x.spot x.to s.requires.1 (write-from-more t c.before.before.before.before.before.before.before.before.before.before.before) h.result.way h.result.to m.a m.key m.code h.new.1.1.1.1.0 m.sheet m.past m.invariant.1 c.before.before.before.before.before.before.if2.true }
+write-from-add-key-2 t c = let s = c.before.before.before.before.before.before.before.before.before.before.before.before.before.before.before.before.before.before.before.before.before.before.before in let x = s.args in let h = c.before.before.before.before.before.before.before.before.before.before.before.before.before.before.before.before.write-here in let m = c.before.before.before.before.before.before.before.before.loop in record { fits = onward.onward_key x.desk x.costs x.n x.numbers.now x.kept.now (length x.sheet.now) (context_of x.spot.key) x.spot x.to s.requires.1 (write-from-more t c.before.before.before.before.before.before.before.before.before.before.before) h.result.way h.result.to m.a m.key m.code h.new.1.1.1.1.0 m.sheet m.past m.invariant.1 c.before.before.before.before.before.before.if2.true }
 
 write-from-add-code : (t : ℕ) → write-from-lts.Need-overflow-add-code (write-from-calls t) (write-from-at t) write-from.Post write-from-Inv-loop write-from-μ-loop
-write-from-add-code t c = let s = c.before.before.before.before.before.before.before.before.before.before.before.before.before.before.before.before.before.before.before.before.before.before.before.before in let x = s.args in let h = c.before.before.before.before.before.before.before.before.before.before.before.before.before.before.before.before.before.write-here in let m = c.before.before.before.before.before.before.before.before.before.loop in record { fits = onward.onward-code x.desk x.costs x.n x.numbers.now x.kept.now (length x.sheet.now) (context_of x.spot.key) x.spot x.to s.requires.1 (write-from-more t c.before.before.before.before.before.before.before.before.before.before.before.before) h.result.way h.result.to m.a m.key m.code h.new.1.1.1.1.0 m.sheet m.past m.invariant.1 c.before.before.before.before.before.before.before.if2.true }
+write-from-add-code t c = let s = c.before.before.before.before.before.before.before.before.before.before.before.before.before.before.before.before.before.before.before.before.before.before.before.before in let x = s.args in let h = c.before.before.before.before.before.before.before.before.before.before.before.before.before.before.before.before.before.write-here in let m = c.before.before.before.before.before.before.before.before.before.loop in record { fits = onward.onward_code x.desk x.costs x.n x.numbers.now x.kept.now (length x.sheet.now) (context_of x.spot.key) x.spot x.to s.requires.1 (write-from-more t c.before.before.before.before.before.before.before.before.before.before.before.before) h.result.way h.result.to m.a m.key m.code h.new.1.1.1.1.0 m.sheet m.past m.invariant.1 c.before.before.before.before.before.before.before.if2.true }
 
 write-from-add-a : (t : ℕ) → write-from-lts.Need-overflow-add-a (write-from-calls t) (write-from-at t) write-from.Post write-from-Inv-loop write-from-μ-loop
 write-from-add-a t c = omega (arith, c.before.before.before.before.before.before.before.if2.true)
@@ -104,8 +104,8 @@ write-from-loop-again t c = let s = c.before.before.before.before.before.before.
     let lt = c.before.before.before.before.before.before.before.if2.true in
     let g = c.before.before.before.write-from in (
       g.auto.1.1.1.1.1.0 ∙ m.invariant.0,
-      onward.onward-next x.desk x.costs x.n x.numbers.now x.kept.now (length x.sheet.now) (context_of x.spot.key) x.spot x.to s.requires.1 (write-from-more t c.before.before.before.before.before.before.before.before.before.before.before.before) h.result.way h.result.to m.a m.key m.code h.new.1.1.1.1.0 m.sheet m.past m.invariant.1 lt h.auto.1.1.1.1.0 (reporting.child-room x.desk x.costs x.n x.numbers.now x.kept.now (length x.sheet.now) (context_of x.spot.key) x.spot x.to s.requires.1 x.sheet.now h.new.1.1.1.1.0 h.result h.ensures (write-from-on t c.before.before.before.before.before.before.before.before.before.before.before.before)) g.new.1.1.1.1.1.0 g.result
-          (subst (λ (u : List ℕ). WroteAt m.sheet g.new.1.1.1.1.1.0 m.past (rows_from x.desk x.n x.numbers.now u (record { key = m.key; span = x.spot.span / 8; left = x.spot.left - 1; code = m.code; power = 8 * x.spot.power; way = h.result.way })) g.result) (onward.onward-is x.desk x.costs x.n x.numbers.now x.kept.now (length x.sheet.now) (context_of x.spot.key) x.spot x.to s.requires.1 (write-from-more t c.before.before.before.before.before.before.before.before.before.before.before.before) h.result.way h.result.to m.a m.key m.code h.new.1.1.1.1.0 m.sheet m.past m.invariant.1 lt) g.ensures),
+      onward.onward_next x.desk x.costs x.n x.numbers.now x.kept.now (length x.sheet.now) (context_of x.spot.key) x.spot x.to s.requires.1 (write-from-more t c.before.before.before.before.before.before.before.before.before.before.before.before) h.result.way h.result.to m.a m.key m.code h.new.1.1.1.1.0 m.sheet m.past m.invariant.1 lt h.auto.1.1.1.1.0 (reporting.child_room x.desk x.costs x.n x.numbers.now x.kept.now (length x.sheet.now) (context_of x.spot.key) x.spot x.to s.requires.1 x.sheet.now h.new.1.1.1.1.0 h.result h.ensures (write-from-on t c.before.before.before.before.before.before.before.before.before.before.before.before)) g.new.1.1.1.1.1.0 g.result
+          (subst (λ (u : List ℕ). WroteAt m.sheet g.new.1.1.1.1.1.0 m.past (rows_from x.desk x.n x.numbers.now u (record { key = m.key; span = x.spot.span / 8; left = x.spot.left - 1; code = m.code; power = 8 * x.spot.power; way = h.result.way })) g.result) (onward.onward_is x.desk x.costs x.n x.numbers.now x.kept.now (length x.sheet.now) (context_of x.spot.key) x.spot x.to s.requires.1 (write-from-more t c.before.before.before.before.before.before.before.before.before.before.before.before) h.result.way h.result.to m.a m.key m.code h.new.1.1.1.1.0 m.sheet m.past m.invariant.1 lt) g.ensures),
     )
 
 write-from-same-length-2 : (t : ℕ) → write-from-lts.Need-same-length-2 (write-from-calls t) (write-from-at t) write-from.Post write-from-Inv-loop write-from-μ-loop
@@ -113,7 +113,7 @@ write-from-same-length-2 t c = c.before.before.loop.invariant.0 ∙ c.before.bef
 
 write-from-returns-2 : (t : ℕ) → write-from-lts.Need-returns-2 (write-from-calls t) (write-from-at t) write-from.Post write-from-Inv-loop write-from-μ-loop
 write-from-returns-2 t c = let s = c.before.before.before.before.before.before.before.before.before.before.before.before.before.before.before.before.before in let x = s.args in let h = c.before.before.before.before.before.before.before.before.before.before.write-here in let m = c.before.before.loop in
-    reporting.finished x.desk x.costs x.n x.numbers.now x.kept.now (length x.sheet.now) (context_of x.spot.key) x.spot x.to s.requires.1 x.sheet.now h.new.1.1.1.1.0 h.result h.ensures (write-from-on t c.before.before.before.before.before) refl m.sheet m.past (onward.onward-done x.desk x.costs x.n x.numbers.now x.kept.now (length x.sheet.now) (context_of x.spot.key) x.spot x.to s.requires.1 (write-from-more t c.before.before.before.before.before) h.result.way h.result.to m.a m.key m.code h.new.1.1.1.1.0 m.sheet m.past m.invariant.1 c.if2.false)
+    reporting.finished x.desk x.costs x.n x.numbers.now x.kept.now (length x.sheet.now) (context_of x.spot.key) x.spot x.to s.requires.1 x.sheet.now h.new.1.1.1.1.0 h.result h.ensures (write-from-on t c.before.before.before.before.before) refl m.sheet m.past (onward.onward_done x.desk x.costs x.n x.numbers.now x.kept.now (length x.sheet.now) (context_of x.spot.key) x.spot x.to s.requires.1 (write-from-more t c.before.before.before.before.before) h.result.way h.result.to m.a m.key m.code h.new.1.1.1.1.0 m.sheet m.past m.invariant.1 c.if2.false)
 
 pub +write-from-spec : {M : Type 1} → statement M
 +write-from-spec = close μ-write-from λ t. write-from-lts.spec (write-from-calls t)

@@ -2,7 +2,6 @@
 use mathlib.Core.Path.{sym, ◌∙◌}
 use Prim.Native.Nat.{◌+◌, ◌-◌, ◌≤◌, ◌<◌}
 use native.Mathlib.Omega.{arith}
-use borrow.Author.Tests.{not-true, not-false}
 use lib.ListN.{length}
 use Rattle.numbers.specs.Limits.{most_symbols, deepest}
 use Rattle.contexts.proofs.Strings.{context_length}
@@ -10,11 +9,6 @@ use Rattle.records.specs.Records.{records}
 use Rattle.records.proofs.KeyWalk.{Walk, walk_start, walk_fits, walk_on}
 use Rattle.records.proofs.Seeking.{Passed, passed_start, onward, located_here, located_all, passed_on}
 use Rattle.records.proofs.seek.Goals as goal
-
--- there is a place for each context
-inside : (c : goal.After-place_from-at) → (let at = c.loop-found in at.found < length at.places)
-inside c =
-    omega (arith, context_length most_symbols deepest c.args.recent.now c.requires.context, c.loop-found.invariant.1.seven)
 
 pub loop-found-init : goal.loop-found-init
 loop-found-init c =
@@ -28,7 +22,7 @@ place_from-at-requires c =
     onward x.desk x.recent.now x.n x.numbers.now c.requires at.places at.key at.eights at.from at.found at.invariant.0 at.invariant.1 (omega arith)
 
 pub bounds-places-found : goal.bounds-places-found
-bounds-places-found c = omega (arith, inside c)
+bounds-places-found c = omega (arith, context_length most_symbols deepest c.args.recent.now c.requires.context, c.loop-found.invariant.1.seven)
 
 pub stands-requires : goal.stands-requires
 stands-requires c = (c.requires.standing, c.place_from-at.ensures)
@@ -37,8 +31,9 @@ pub returns-then-not-stands : goal.returns-then-not-stands
 returns-then-not-stands c =
     let x = c.args in
     let at = c.loop-found in
+    let inside : at.found < length at.places = omega (arith, context_length most_symbols deepest c.args.recent.now c.requires.context, c.loop-found.invariant.1.seven) in
     located_here x.desk x.recent.now x.n x.numbers.now c.requires at.places at.key at.eights at.from at.found at.invariant.0 at.invariant.1 (omega arith)
-    (inside (goal.at.returns-then-not-stands c).After-place_from-at) c.place_from-at.result c.place_from-at.ensures (sym c.stands.ensures ∙ not-true _ c.if-not-stands.true)
+    inside c.place_from-at.result c.place_from-at.ensures (sym c.stands.ensures ∙ c.if-not-stands.true)
 
 pub longer-key-requires : goal.longer-key-requires
 longer-key-requires c =
@@ -54,10 +49,11 @@ pub loop-found-preserved : goal.loop-found-preserved
 loop-found-preserved c =
     let x = c.args in
     let at = c.loop-found in
+    let inside : at.found < length at.places = omega (arith, context_length most_symbols deepest c.args.recent.now c.requires.context, c.loop-found.invariant.1.seven) in
     let on : at.found ≤ length x.recent.now = omega arith in (
       walk_on x.desk x.recent.now c.requires.desk c.requires.context at.key at.eights at.found at.invariant.0 c.longer-key.result on c.longer-key.ensures,
       passed_on x.desk x.recent.now x.n x.numbers.now c.requires at.places at.key at.eights at.from at.found at.invariant.0 at.invariant.1 on
-          (inside (goal.at.loop-found-preserved c).After-place_from-at) c.place_from-at.result c.place_from-at.ensures (sym c.stands.ensures ∙ not-false _ c.if-not-stands.false),
+          inside c.place_from-at.result c.place_from-at.ensures (sym c.stands.ensures ∙ c.if-not-stands.false),
     )
 
 pub returns : goal.returns

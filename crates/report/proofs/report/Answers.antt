@@ -17,16 +17,17 @@ use Rattle.calls.specs.Promises.{Reports}
 use Rattle.calls.proofs.Reporting.{reports_unsound}
 use Rattle.report.proofs.Refusing.{told_no_desk, told_shut, told_first, told_second, told_first_short, told_second_short, can_report}
 use Rattle.report.proofs.report.Goals as goal
+use Rattle.report.proofs.report.Goals.{Else-field_at-ne1, Else-not-sound, Else-not-sound,}
 
 -- past the first test the store is sound
-sound-here : (c : goal.Else-not-sound) → soundb c.args.store.now ≡ true
+sound-here : (c : Else-not-sound) → soundb c.args.store.now ≡ true
 sound-here c = sym c.sound.ensures ∙ not-false _ c.if-not-sound.false
 
-header-here : (c : goal.Else-not-sound) → header_size ≤ length c.args.store.now
+header-here : (c : Else-not-sound) → header_size ≤ length c.args.store.now
 header-here c = omega (arith, (sound_stands c.args.store.now (sound-here c)).long)
 
 -- past the third the desk is open
-open-here : (c : goal.Else-field_at-ne1) → let x = c.args in Open x.store.now x.desk
+open-here : (c : Else-field_at-ne1) → let x = c.args in Open x.store.now x.desk
 open-here c =
     let x = c.args in
     record { desk = omega arith; opened = eq→eqb (field x.store.now x.desk 0) 1 (sym c.field_at.ensures ∙ c.if-field_at-ne1.false) }

@@ -7,7 +7,7 @@ use Rattle.report.proofs.report_on.Goals as goal
 
 pub returns-then-whole-place : goal.returns-then-whole-place
 returns-then-whole-place c =
-    short_told c.args.store.now c.args.desk c.requires c.args.place c.args.sheet-1.now _ c.weighed-least.result c.weighed-least.ensures c.if-whole-place.true
+    short_told c.args.store.now c.args.desk c.requires c.args.place c.args.sheet.now _ c.weighed-least.result c.weighed-least.ensures c.if-whole-place.true
 
 pub write-requires : goal.write-requires
 write-requires c =
@@ -17,5 +17,5 @@ pub returns : goal.returns
 returns c =
     let r = c.weighed-least.result in
     let e = c.weighed-least.ensures in
-    report_told c.args.store.now c.args.desk c.requires c.args.place c.args.sheet-1.now _ r e (omega (arith, c.if-whole-place.false)) _ _ c.write.ensures
+    report_told c.args.store.now c.args.desk c.requires c.args.place c.args.sheet.now _ r e (omega (arith, c.if-whole-place.false)) _ _ c.write.ensures
     (minus_back r.joint c.score_of.result e.joint_small c.score_of.ensures)

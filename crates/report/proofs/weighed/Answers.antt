@@ -9,8 +9,9 @@ use Rattle.store.specs.Layout.{header_size, used}
 use Rattle.weighing.specs.Weighs.{Weighs}
 use Rattle.report.proofs.ByValue.{sized, can_weigh, has_weighed}
 use Rattle.report.proofs.weighed.Goals as goal
+use Rattle.report.proofs.weighed.Goals.{After-shared_slice_known-3-1, Start}
 
-start : goal.After-shared_slice_known-3-1 → goal.Start
+start : After-shared_slice_known-3-1 → Start
 start c = c.before.before.before.before
 
 pub bounds-store-1 : goal.bounds-store-1
@@ -30,9 +31,9 @@ slice_bounds-weigh-start c = let h = sized (start c).args.store.now (start c).ar
 
 pub weigh-requires : goal.weigh-requires
 weigh-requires c =
-    (c.requires.0, rw (tail_lent header_size c.args.store.now) (can_weigh c.args.store.now c.args.desk c.requires.1 c.args.kept-1.now c.requires.2))
+    (c.requires.0, rw (tail_lent header_size c.args.store.now) (can_weigh c.args.store.now c.args.desk c.requires.1 c.args.kept.now c.requires.2))
 
 pub returns : goal.returns
 returns c =
-    has_weighed c.args.store.now c.args.desk c.requires.1 c.args.kept-1.now c.weigh.new.1.1.1.1.0 c.weigh.result
-    (subst (λ (l : List ℕ). Weighs c.args.desk (used c.args.store.now) l c.args.kept-1.now c.weigh.new.1.1.1.1.0 c.weigh.result) (tail_lent header_size c.args.store.now) c.weigh.ensures)
+    has_weighed c.args.store.now c.args.desk c.requires.1 c.args.kept.now c.weigh.new.1.1.1.1.0 c.weigh.result
+    (subst (λ (l : List ℕ). Weighs c.args.desk (used c.args.store.now) l c.args.kept.now c.weigh.new.1.1.1.1.0 c.weigh.result) (tail_lent header_size c.args.store.now) c.weigh.ensures)

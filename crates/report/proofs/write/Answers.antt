@@ -26,14 +26,14 @@ pub write_rows-requires : goal.write_rows-requires
 write_rows-requires c =
     (
       c.requires.0,
-      rw (tail_lent header_size c.args.store.now, tail_lent (row_width * c.args.place) c.args.sheet-1.now)
-          (can_write c.args.store.now c.args.desk c.requires.1 c.args.place c.args.sheet-1.now c.requires.3 c.args.kept.now c.requires.2),
+      rw (tail_lent header_size c.args.store.now, tail_lent (row_width * c.args.place) c.args.sheet.now)
+          (can_write c.args.store.now c.args.desk c.requires.1 c.args.place c.args.sheet.now c.requires.3 c.args.kept.now c.requires.2),
     )
 
 pub returns : goal.returns
 returns c =
     let store = c.args.store.now in
-    let sheet = c.args.sheet-1.now in
+    let sheet = c.args.sheet.now in
     let part = c.write_rows.new.1.1.1.1.1.0 in
     has_written store c.args.desk c.requires.1 c.args.place sheet c.requires.3 part _
     (subst (λ (l : List ℕ). Listed c.args.desk (used store) l (drop (row_width * c.args.place) sheet) part) (tail_lent header_size store)

@@ -25,5 +25,5 @@ returns c =
     let at = c.place_of-at.ensures.at in
     ⊎_elim
     (λ v. weighed w at v.2.ensures (omega (arith, v.2.kept-1.1.1.0, c.requires.1.beside)) v.2.kept-1.1.1.0 v.5 v.6)
-    (λ v. weighed w at (answer_absent (root_ready w at c.costs_of-costs.ensures) (sym c.stands.ensures ∙ v.0.left) c.args.kept-1.now v.1.ensures) c.requires.1.beside refl v.2 v.3)
+    (λ v. weighed w at (answer_absent (root_ready w at c.costs_of-costs.ensures) (sym c.stands.ensures ∙ v.0.left) c.args.kept.now v.1.ensures) c.requires.1.beside refl v.2 v.3)
     c.if-stands.branch
