@@ -17,7 +17,7 @@ use Rattle.calls.proofs.Keeping.{asks_unsound}
 use Rattle.charting.specs.Naming.{named}
 use Rattle.charting.proofs.Verdicts.{asks_no_desk, asks_shut, asks_symbol, asks_length, Asked, asks_code, key_readable, asks_chart}
 use Rattle.charting.proofs.chart.Goals as goal
-use Rattle.charting.proofs.chart.Goals.{After-key_of, Else-field_at-length, Else-field_at-ne1, Else-not-sound, Else-not-sound,}
+use Rattle.charting.proofs.chart.Goals.{After-key_of, Else-field_at-length, Else-field_at-ne1, Else-not-sound}
 
 -- past the first test the store is sound
 sound-here : (c : Else-not-sound) → soundb c.args.store.now ≡ true

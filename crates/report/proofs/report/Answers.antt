@@ -17,7 +17,7 @@ use Rattle.calls.specs.Promises.{Reports}
 use Rattle.calls.proofs.Reporting.{reports_unsound}
 use Rattle.report.proofs.Refusing.{told_no_desk, told_shut, told_first, told_second, told_first_short, told_second_short, can_report}
 use Rattle.report.proofs.report.Goals as goal
-use Rattle.report.proofs.report.Goals.{Else-field_at-ne1, Else-not-sound, Else-not-sound,}
+use Rattle.report.proofs.report.Goals.{Else-field_at-ne1, Else-not-sound}
 
 -- past the first test the store is sound
 sound-here : (c : Else-not-sound) → soundb c.args.store.now ≡ true

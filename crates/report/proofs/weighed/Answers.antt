@@ -19,7 +19,7 @@ unfolding start
 bounds-store-1 c = let h = sized (start c).args.store.now (start c).args.desk (start c).requires.1 in omega arith
 
 pub overflow_cast-used : goal.overflow_cast-used
-overflow_cast-used c = omega (arith, c.shared_slice_known.given 1)
+overflow_cast-used c = omega (arith, c.type_inv.store 1)
 
 pub slice_bounds-weigh-count : goal.slice_bounds-weigh-count
 unfolding start
