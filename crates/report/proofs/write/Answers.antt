@@ -23,12 +23,11 @@ pub slice_bounds-write_rows-start : goal.slice_bounds-write_rows-start
 slice_bounds-write_rows-start c = let h = sized c.args.store.now c.args.desk c.requires.1 in omega arith
 
 pub write_rows-requires : goal.write_rows-requires
-write_rows-requires c =
-    (
-      c.requires.0,
-      rw (tail_lent header_size c.args.store.now, tail_lent (row_width * c.args.place) c.args.sheet.now)
-          (can_write c.args.store.now c.args.desk c.requires.1 c.args.place c.args.sheet.now c.requires.3 c.args.kept.now c.requires.2),
-    )
+write_rows-requires c = (
+  c.requires.0,
+  rw (tail_lent header_size c.args.store.now, tail_lent (row_width * c.args.place) c.args.sheet.now)
+      (can_write c.args.store.now c.args.desk c.requires.1 c.args.place c.args.sheet.now c.requires.3 c.args.kept.now c.requires.2),
+)
 
 pub returns : goal.returns
 returns c =
