@@ -1,6 +1,5 @@
 -- `salvage::salvage` meets its contract: a faulty header, or what is saved behind a whole one. Assumes nothing.
-use mathlib.Core.Path.{sym, ◌∙◌}
-use borrow.Author.Rules.{rules}
+use mathlib.Core.Path.{sym}
 use Rattle.salvage.proofs.Answers.{fault_stays}
 use Rattle.salvage.proofs.salvage.Goals as goal
 

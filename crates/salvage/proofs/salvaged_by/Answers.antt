@@ -1,6 +1,5 @@
 -- `salvage::salvaged_by` meets its contract: each case of the writer's answer. Assumes nothing.
 use mathlib.Core.Path.{sym, ap}
-use borrow.Author.Rules.{rules}
 use Rattle.writing.specs.declared.Writing.{Writing}
 use Rattle.salvage.specs.Salvage.{salvaged_by}
 use Rattle.salvage.proofs.salvaged_by.Goals as goal

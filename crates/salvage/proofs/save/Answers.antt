@@ -1,12 +1,12 @@
 -- `salvage::save` meets its contract: the samples' bytes, what is kept of them, what is lost, and the writer's answer. Assumes nothing.
-use Rattle.std.proofs.Common.{ℕ, ◌≡◌, ◌+◌, ◌-◌, ◌≤◌, List, length, take, drop, sym, ap, subst, ◌∙◌, arith, length-take}
+use Rattle.std.proofs.Common.{ℕ, ◌≡◌, ◌+◌, ◌≤◌, List, length, take, drop, sym, ap, subst, ◌∙◌, arith, length-take}
 use Rattle.numbers.specs.Limits.{longest}
 use Rattle.sitting_file.specs.Format.{header_of}
 use Rattle.sitting_file.specs.Samples.{longest_header}
 use Rattle.sitting_file.specs.declared.Shape.{Shape}
 use Rattle.sitting_file.specs.declared.Heading.TheVariants.{Whole}
-use Rattle.sitting_file.proofs.Stages.{HeaderRead, header_read}
-use Rattle.salvage.specs.Salvage.{kept_bytes, first_bytes, second_bytes, first_kept, second_kept, salvage_outcome, Within, Salvages}
+use Rattle.sitting_file.proofs.Stages.{header_read}
+use Rattle.salvage.specs.Salvage.{kept_bytes, second_bytes, salvage_outcome, Within, Salvages}
 use Rattle.salvage.specs.declared.Salvaged.{Salvaged}
 use Rattle.salvage.proofs.Keeping.{kept_fits}
 use Rattle.salvage.proofs.Answers.{saved_by}

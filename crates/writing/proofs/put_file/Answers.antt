@@ -3,7 +3,7 @@ use Rattle.std.proofs.Common.{ℕ, ◌≡◌, List, [], ◌++◌, arith, refl}
 use Rattle.placing.specs.Placing.{HasRoom, Puts}
 use Rattle.placing.proofs.Laws.{room_front, room_back, puts_then}
 use Rattle.sitting_file.specs.Verdict.{written, with_header}
-use Rattle.writing.specs.Writing.{shape_of, file_of, good_values}
+use Rattle.writing.specs.Writing.{shape_of, file_of}
 use Rattle.writing.proofs.Good.{Good, good, file_parts}
 use Rattle.writing.proofs.put_file.Goals as goal
 

@@ -2,7 +2,6 @@
 use Prim.Native.Nat.{ℕ, ◌+◌, ◌/◌, ◌%◌}
 use mathlib.Core.Path.{sym, subst}
 use mathlib.Core.List.{List, [], ◌∷◌}
-use borrow.Author.Rules.{rules}
 use Rattle.placing.specs.Placing.{HasRoom, Puts}
 use Rattle.placing.proofs.Laws.{room_front, room_back, puts_then}
 use Rattle.sitting_file.specs.Format.{high_bit}

@@ -1,6 +1,5 @@
 -- `writing::write` meets its contract: the values are judged, then the room, then the file is put. Assumes nothing.
-use Rattle.std.proofs.Common.{ℕ, ◌≡◌, ◌≤◌, ◌+◌, true, List, sym, ◌∙◌, arith, length}
-use Rattle.std.proofs.Math.Dec.{T}
+use Rattle.std.proofs.Common.{ℕ, ◌≡◌, ◌+◌, true, List, sym, ◌∙◌, arith, length}
 use Rattle.numbers.proofs.Tests.{of_true, not_both, is_true}
 use Rattle.sitting_file.specs.Verdict.{shortest}
 use Rattle.writing.specs.Writing.{file_of, good_values}
