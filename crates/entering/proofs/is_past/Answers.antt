@@ -8,13 +8,13 @@ use Rattle.entering.proofs.is_past.Goals as goal
 pub returns-then-recent-found : goal.returns-then-recent-found
 returns-then-recent-found c =
     let x = c.args in
-    none_past x.store.now x.desk x.recent.now x.sought.found x.sought.places-1 c.requires c.if-recent-found.true
+    none_past x.store.now x.desk x.recent.now x.sought.found x.sought.places c.requires c.if-recent-found.true
 
 pub bounds-store-1 : goal.bounds-store-1
 bounds-store-1 c = omega (arith, header_long c.args.store.now c.requires.sound)
 
 pub overflow_cast-many : goal.overflow_cast-many
-overflow_cast-many c = omega (arith, c.shared_slice_known-3-1.given 1)
+overflow_cast-many c = omega (arith, c.type_inv.store 1)
 
 pub slice_bounds-held_by-count : goal.slice_bounds-held_by-count
 slice_bounds-held_by-count c = omega (arith, header_long c.args.store.now c.requires.sound)
@@ -25,12 +25,12 @@ slice_bounds-held_by-start c = omega (arith, header_long c.args.store.now c.requ
 pub bounds-places-found : goal.bounds-places-found
 bounds-places-found c =
     let x = c.args in
-    few_places x.store.now x.desk x.recent.now x.sought.found x.sought.places-1 c.requires c.if-recent-found.false
+    few_places x.store.now x.desk x.recent.now x.sought.found x.sought.places c.requires c.if-recent-found.false
 
 pub held_by-held-requires : goal.held_by-held-requires
 held_by-held-requires c =
     let x = c.args in
-    spanned x.store.now x.desk x.recent.now x.sought.found x.sought.places-1 c.requires c.if-recent-found.false
+    spanned x.store.now x.desk x.recent.now x.sought.found x.sought.places c.requires c.if-recent-found.false
 
 pub field_at-reserve-requires : goal.field_at-reserve-requires
 field_at-reserve-requires c =
@@ -40,9 +40,9 @@ field_at-reserve-requires c =
 pub overflow_add-result : goal.overflow_add-result
 overflow_add-result c =
     let x = c.args in
-    omega (arith, sum_small x.store.now x.desk x.recent.now x.sought.found x.sought.places-1 c.requires c.if-recent-found.false c.held_by-held.result c.field_at-reserve.result c.held_by-held.ensures c.field_at-reserve.ensures)
+    omega (arith, sum_small x.store.now x.desk x.recent.now x.sought.found x.sought.places c.requires c.if-recent-found.false c.held_by-held.result c.field_at-reserve.result c.held_by-held.ensures c.field_at-reserve.ensures)
 
 pub returns : goal.returns
 returns c =
     let x = c.args in
-    past_is x.store.now x.desk x.recent.now x.sought.found x.sought.places-1 c.requires c.if-recent-found.false c.held_by-held.result c.field_at-reserve.result c.held_by-held.ensures c.field_at-reserve.ensures
+    past_is x.store.now x.desk x.recent.now x.sought.found x.sought.places c.requires c.if-recent-found.false c.held_by-held.result c.field_at-reserve.result c.held_by-held.ensures c.field_at-reserve.ensures

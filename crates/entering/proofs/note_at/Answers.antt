@@ -8,7 +8,7 @@ pub note-requires : goal.note-requires
 note-requires c =
     let x = c.args in
     let p = c.requires in
-    rw (size_number x.sample p.1, recent_number x.sample p.1) (desk_places x.store-1.now x.desk (sample_of x.sample) p.0 p.2, p.3)
+    rw (size_number x.sample p.1, recent_number x.sample p.1) (desk_places x.store.now x.desk (sample_of x.sample) p.0 p.2, p.3)
 
 pub returns : goal.returns
 returns c =

@@ -9,7 +9,7 @@ pub bounds-store-1 : goal.bounds-store-1
 bounds-store-1 c = omega (arith, header_long c.args.store.now c.requires.0)
 
 pub overflow_cast-many : goal.overflow_cast-many
-overflow_cast-many c = omega (arith, c.shared_slice_known-3-1.given 1)
+overflow_cast-many c = omega (arith, c.type_inv.store 1)
 
 pub slice_bounds-seek-count : goal.slice_bounds-seek-count
 slice_bounds-seek-count c = omega (arith, header_long c.args.store.now c.requires.0)

@@ -9,7 +9,7 @@ pub bounds-store-1 : goal.bounds-store-1
 bounds-store-1 c = omega (arith, header_long c.args.store.now c.requires.0.sound)
 
 pub overflow_cast-many : goal.overflow_cast-many
-overflow_cast-many c = omega (arith, c.slice_known-2-1.given 1)
+overflow_cast-many c = omega (arith, c.type_inv.store 1)
 
 pub slice_bounds-body-count : goal.slice_bounds-body-count
 slice_bounds-body-count c = omega (arith, header_long c.args.store.now c.requires.0.sound)
@@ -20,23 +20,23 @@ slice_bounds-body-start c = omega (arith, header_long c.args.store.now c.require
 pub feed_records-count-requires : goal.feed_records-count-requires
 feed_records-count-requires c =
     let x = c.args in
-    lent_ready x.store-1.now x.desk x.sample x.symbol c.requires.0 c.requires.1 x.recent.now c.requires.2 c.requires.4 x.sought.found x.sought.places c.requires.3
+    lent_ready x.store.now x.desk x.sample x.symbol c.requires.0 c.requires.1 x.recent.now c.requires.2 c.requires.4 x.sought.found x.sought.places c.requires.3
 
 pub overflow_cast-count : goal.overflow_cast-count
 overflow_cast-count c =
     let x = c.args in
     let fed = c.feed_records-count in
-    omega (arith, count_fits x.store-1.now x.desk x.sample x.symbol c.requires.0 c.requires.1 x.recent.now c.requires.2 c.requires.4 fed.result fed.new.0 (search rules) fed.ensures)
+    omega (arith, count_fits x.store.now x.desk x.sample x.symbol c.requires.0 c.requires.1 x.recent.now c.requires.2 c.requires.4 fed.result fed.new.numbers (search rules) fed.ensures)
 
 pub note_at-requires : goal.note_at-requires
 note_at-requires c =
     let x = c.args in
     let fed = c.feed_records-count in
-    note_asks x.store-1.now x.desk x.sample x.symbol c.requires.0 c.requires.1 x.recent.now c.requires.2 c.requires.4 fed.result fed.new.0 (search rules) fed.ensures
+    note_asks x.store.now x.desk x.sample x.symbol c.requires.0 c.requires.1 x.recent.now c.requires.2 c.requires.4 fed.result fed.new.numbers (search rules) fed.ensures
 
 pub returns : goal.returns
 returns c =
     let x = c.args in
     let fed = c.feed_records-count in
     let noted = c.note_at in
-    written x.store-1.now x.desk x.sample x.symbol c.requires.0 c.requires.1 x.recent.now c.requires.2 c.requires.4 fed.result fed.new.0 (search rules) fed.ensures noted.new.0 noted.ensures
+    written x.store.now x.desk x.sample x.symbol c.requires.0 c.requires.1 x.recent.now c.requires.2 c.requires.4 fed.result fed.new.numbers (search rules) fed.ensures noted.new.store noted.ensures

@@ -11,10 +11,10 @@ bounds-store-1 c = omega (arith, header_long c.args.store.now c.requires.0.sound
 pub note_at-requires : goal.note_at-requires
 note_at-requires c =
     let x = c.args in
-    header_asks x.store-1.now x.desk x.sample x.symbol c.requires.0 c.requires.1 c.requires.2
+    header_asks x.store.now x.desk x.sample x.symbol c.requires.0 c.requires.1 c.requires.2
 
 pub returns : goal.returns
 returns c =
     let x = c.args in
     let noted = c.note_at in
-    header_written x.store-1.now x.desk x.sample x.symbol c.requires.0 c.requires.1 c.requires.2 noted.new.0 noted.ensures
+    header_written x.store.now x.desk x.sample x.symbol c.requires.0 c.requires.1 c.requires.2 noted.new.store noted.ensures

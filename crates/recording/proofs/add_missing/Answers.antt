@@ -6,4 +6,4 @@ use Rattle.recording.proofs.add_missing.Goals as goal
 pub returns : goal.returns
 returns c =
     let put = c.insert in
-    grown_written c.requires put.new.0 (search rules) put.ensures
+    grown_written c.requires put.new.part (search rules) put.ensures

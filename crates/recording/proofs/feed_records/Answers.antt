@@ -27,4 +27,4 @@ returns c =
     let added = c.add_missing in
     let raised = c.raise_held in
     let w = added.ensures in
-    fed_written c.requires c.if-recent-found.false added.result added.new.0 (rw raised.ensures at w)
+    fed_written c.requires c.if-recent-found.false added.result added.new.numbers (rw raised.ensures at w)

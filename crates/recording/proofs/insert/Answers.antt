@@ -7,22 +7,23 @@ use lib.Seq.{length-take-le}
 use Rattle.records.specs.Records.{width}
 use Rattle.recording.proofs.Opening.{inserted}
 use borrow.Author.Rules.{rules}
+use Rattle.recording.proofs.insert.Goals.{After-shift_up}
 use Rattle.recording.proofs.insert.Goals as goal
 
 -- the front that is lent has room for the new records alone
-front : (c : goal.After-write_run-arg-1) → (let x = c.args in
+front : (c : After-shift_up) → (let x = c.args in
     let gap = width * (length x.recent.now + 1 - x.found) in length (take gap c.shift_up.new.part) ≡ gap)
 front c =
     let x = c.args in
     length-take-le (width * (length x.recent.now + 1 - x.found)) c.shift_up.new.part (search rules)
 
 pub slice_bounds-write_run-end-2 : goal.slice_bounds-write_run-end-2
-slice_bounds-write_run-end-2 c = sym (front c)
+slice_bounds-write_run-end-2 c = sym (front (goal.at.slice_bounds-write_run-end-2 c).After-shift_up)
 
 pub write_run-requires : goal.write_run-requires
 write_run-requires c =
     let pre = c.requires in
-    record { desk = pre.desk; context = pre.context; some = pre.some; cell = pre.cell; fits = omega (arith, front c); eighths = omega (arith, front c) }
+    record { desk = pre.desk; context = pre.context; some = pre.some; cell = pre.cell; fits = omega (arith, front (goal.at.write_run-requires c).After-shift_up); eighths = omega (arith, front (goal.at.write_run-requires c).After-shift_up) }
 
 pub returns : goal.returns
 returns c =
@@ -30,5 +31,5 @@ returns c =
     let shifted = c.shift_up in
     let wrote = c.write_run in
     let gap = width * (length x.recent.now + 1 - x.found) in
-    let same : length wrote.new.0 ≡ length (take gap shifted.new.0) = search rules in
-    inserted x.desk x.recent.now x.found x.cell x.part-1.now shifted.new.0 wrote.new.0 c.requires shifted.ensures (same ∙ front (goal.at.returns c).After-write_run-arg-1) wrote.ensures
+    let same : length wrote.new.part ≡ length (take gap shifted.new.part) = search rules in
+    inserted x.desk x.recent.now x.found x.cell x.part.now shifted.new.part wrote.new.part c.requires shifted.ensures (same ∙ front (goal.at.returns c).After-shift_up) wrote.ensures

@@ -22,4 +22,4 @@ shape_of-part c = simp length-set
 
 pub returns : goal.returns
 returns c =
-    eight_written c.args.part.now c.args.eight c.requires c.well-formed.1.0.1.0.1
+    eight_written c.args.part.now c.args.eight c.requires (search rules)

@@ -6,11 +6,12 @@ use lib.ListN.{length, get_or}
 use Rattle.records.specs.Records.{width}
 use Rattle.recording.specs.Counted.{raised_each}
 use Rattle.recording.proofs.Raising.{length_raised, raised_none, raised_on}
+use Rattle.recording.proofs.raise_held.Goals.{In-loop-done}
 use Rattle.recording.proofs.raise_held.Goals as goal
 
 -- the next count stands in the numbers
-there : (c : goal.In-loop-done) → (let x = c.args in
-    width * get_or x.sought.places-1 c.loop-done.done 0 + x.cell < length x.numbers-1.now)
+there : (c : In-loop-done) → (let x = c.args in
+    width * get_or x.sought.places c.loop-done.done 0 + x.cell < length x.numbers.now)
 there c = c.requires.there c.loop-done.done c.loop-done-test.true
 
 pub loop-done-init : goal.loop-done-init
@@ -32,20 +33,20 @@ pub raise-requires : goal.raise-requires
 raise-requires c =
     let x = c.args in
     let loop = c.loop-done in
-    rw (loop.invariant.1, length_raised loop.done x.cell x.sought.places-1 x.numbers-1.now)
+    rw (loop.invariant.1, length_raised loop.done x.cell x.sought.places x.numbers.now)
     (there (goal.at.raise-requires c).In-loop-done, c.requires.small loop.done c.loop-done-test.true)
 
 pub loop-done-preserved : goal.loop-done-preserved
 loop-done-preserved c =
     let x = c.args in
     let raised = c.raise in
-    (omega arith, raised_on c.loop-done.done x.cell x.sought.places-1 x.numbers-1.now c.loop-done.numbers-1 raised.new.0 c.loop-done.invariant.1 raised.ensures)
+    (omega arith, raised_on c.loop-done.done x.cell x.sought.places x.numbers.now c.loop-done.numbers raised.new.numbers c.loop-done.invariant.1 raised.ensures)
 
 pub shape_of-numbers : goal.shape_of-numbers
 shape_of-numbers c =
     let x = c.args in
     let loop = c.loop-done in
-    rw loop.invariant.1 (length_raised loop.done x.cell x.sought.places-1 x.numbers-1.now)
+    rw loop.invariant.1 (length_raised loop.done x.cell x.sought.places x.numbers.now)
 
 pub returns : goal.returns
 returns c =

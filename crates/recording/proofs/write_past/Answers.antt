@@ -12,4 +12,4 @@ pub returns : goal.returns
 returns c =
     let x = c.args in
     let wrote = c.write_new in
-    appended x.found x.seen x.key x.cell x.part-1.now wrote.new.0 (omega arith) c.requires.0 wrote.ensures
+    appended x.found x.seen x.key x.cell x.part.now wrote.new.part (omega arith) c.requires.0 wrote.ensures

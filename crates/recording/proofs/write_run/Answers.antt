@@ -11,7 +11,7 @@ use Rattle.recording.proofs.write_run.Goals as goal
 pub loop-seen-init : goal.loop-seen-init
 loop-seen-init c =
     let x = c.args in
-    (walk_start x.desk x.recent.now, refl, run_start x.desk x.recent.now x.found x.cell x.part-1.now)
+    (walk_start x.desk x.recent.now, refl, run_start x.desk x.recent.now x.found x.cell x.part.now)
 
 pub write_past-requires : goal.write_past-requires
 write_past-requires c =
@@ -31,7 +31,7 @@ loop-seen-preserved c =
     let on : at.seen ≤ length x.recent.now = omega arith in (
       walk_on x.desk x.recent.now c.requires.desk c.requires.context at.key at.eights at.seen at.invariant.0 c.longer-key.result on c.longer-key.ensures,
       search rules,
-      run_on x.desk x.recent.now x.found x.cell at.seen at.key at.part-1 wrote.new.0 (at.invariant.0.key_is on) at.invariant.2 wrote.ensures,
+      run_on x.desk x.recent.now x.found x.cell at.seen at.key at.part wrote.new.part (at.invariant.0.key_is on) at.invariant.2 wrote.ensures,
     )
 
 pub shape_of-part : goal.shape_of-part

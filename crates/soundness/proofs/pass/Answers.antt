@@ -10,10 +10,11 @@ use Rattle.store.specs.Walk.{seen_mark}
 use Rattle.store.proofs.Parts.{lent, record_lent, record_long}
 use Rattle.store.proofs.Walking.{step_desk}
 use Rattle.soundness.proofs.Turn.{Turn, turn_start, turn_next, turn_bad, turn_end}
+use Rattle.soundness.proofs.pass.Goals.{Then-record_ok}
 use Rattle.soundness.proofs.pass.Goals as goal
 
 -- a record that passes has a desk
-passed : (c : goal.Then-record_ok) → desk_of (key (lent c.loop-i.i c.args.body.now)) < desks
+passed : (c : Then-record_ok) → desk_of (key (lent c.loop-i.i c.args.body.now)) < desks
 passed c = step_desk _ _ _ _ _ (of_true _ (sym c.record_ok.ensures ∙ c.if-record_ok.true))
 
 pub loop-i-init : goal.loop-i-init
@@ -27,10 +28,10 @@ record_ok-requires c =
     (omega arith, record { long = omega arith; in_first = c.total-x.ensures.0; in_second = c.total-y.ensures.0; small_first = c.total-x.ensures.1; small_second = c.total-y.ensures.1 })
 
 pub overflow_cast-desk : goal.overflow_cast-desk
-overflow_cast-desk c = omega (arith, passed c)
+overflow_cast-desk c = omega (arith, passed (goal.at.overflow_cast-desk c).Then-record_ok)
 
 pub mark-requires : goal.mark-requires
-mark-requires c = omega (arith, passed c)
+mark-requires c = omega (arith, passed (goal.at.mark-requires c).Then-record_ok)
 
 pub mark-requires-then-record_ok : goal.mark-requires-then-record_ok
 mark-requires-then-record_ok c = omega (arith, passed (goal.at.mark-requires-then-record_ok c).Then-record_ok)

@@ -10,14 +10,15 @@ use Rattle.records.specs.Records.{key}
 use Rattle.store.specs.Sound.{table_ok}
 use Rattle.store.specs.Walk.{key_fits, own_ok, step_ok}
 use Rattle.store.proofs.Walking.{KeyFitting, key_fitting}
+use Rattle.soundness.proofs.record_ok.Goals.{Then-key_fits}
 use Rattle.soundness.proofs.record_ok.Goals as goal
 
 -- what a key that fits tells
-good : (c : goal.Then-key_fits) → KeyFitting c.args.store.now (key c.args.held.now)
+good : (c : Then-key_fits) → KeyFitting c.args.store.now (key c.args.held.now)
 good c = key_fitting _ _ (of_true _ (sym c.key_fits.ensures ∙ c.if-key_fits.true))
 
 pub table_ok-requires : goal.table_ok-requires
-table_ok-requires c = (c.requires.0, (good c).desk, c.requires.1)
+table_ok-requires c = (c.requires.0, (good (goal.at.table_ok-requires c).Then-key_fits).desk, c.requires.1)
 
 pub up_mark-up-requires : goal.up_mark-up-requires
 up_mark-up-requires c = omega (arith, (good (goal.at.up_mark-up-requires c).Then-key_fits).desk)

@@ -9,7 +9,7 @@ use Rattle.soundness.proofs.reserved_at.Goals as goal
 pub returns-then-field_at-eq1 : goal.returns-then-field_at-eq1
 returns-then-field_at-eq1 c =
     let args = c.args in
-    let fits = c.field_at-then-field_at-eq1.type-inv in
+    let fits = c.field_at-then-field_at-eq1.type_inv in
     let there : field args.store.now args.desk 0 ≡ 1 = omega arith in
     (rw (eq-eqb (field args.store.now args.desk 0) 1 there) c.field_at-then-field_at-eq1.ensures, omega arith)
 

@@ -9,16 +9,17 @@ use Rattle.store.specs.Layout.{header_size, records_in}
 use Rattle.store.specs.Sound.{frame_ok}
 use Rattle.store.specs.Walk.{passb}
 use Rattle.store.proofs.Whole.{Frame, frame, body_long, pass_is}
+use Rattle.soundness.proofs.sound.Goals.{Then-frame_ok, After-pass}
 use Rattle.soundness.proofs.sound.Goals as goal
 
-known-test : (c : goal.Then-frame_ok) → frame_ok c.args.store.now ≡ true
+known-test : (c : Then-frame_ok) → frame_ok c.args.store.now ≡ true
 known-test c = sym c.frame_ok.ensures ∙ c.if-frame_ok.true
 
-known : (c : goal.Then-frame_ok) → Frame c.args.store.now
+known : (c : Then-frame_ok) → Frame c.args.store.now
 known c = frame c.args.store.now (of_true _ (known-test c))
 
 -- what the pass says of the part that it was lent, said of the store
-passes : (c : goal.After-pass) → passb c.args.store.now (records_in c.args.store.now) ≡ c.pass.result
+passes : (c : After-pass) → passb c.args.store.now (records_in c.args.store.now) ≡ c.pass.result
 unfolding records_in
 passes c = sym (rw (tail_lent header_size c.args.store.now) at c.pass.ensures)
 

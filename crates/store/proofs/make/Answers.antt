@@ -29,19 +29,19 @@ returns-then-many-gt-MOST_ROOM c =
 pub returns-then-store-many : goal.returns-then-store-many
 returns-then-store-many c =
     let K = c.args.room in
-    let s = c.args.store-1.now in
+    let s = c.args.store.now in
     let l : 1 ≤ K = omega arith in
     let h : K ≤ most_room = omega arith in
     let m : length s < store_size K = omega arith in
     making_refused K s StoreShort (rw (le-ltb K 1 l, le-ltb most_room K h, lt-ltb (length s) (store_size K) m)) (λ e. let z : ◌≡◌ {A = ℕ} 0 1 = cc in omega arith)
 
 pub slice_bounds-clear-end-2 : goal.slice_bounds-clear-end-2
-slice_bounds-clear-end-2 c = sym (length-take-le header_size c.args.store-1.now (omega arith))
+slice_bounds-clear-end-2 c = sym (length-take-le header_size c.args.store.now (omega arith))
 
 pub returns : goal.returns
 returns c =
     let K = c.args.room in
-    let s = c.args.store-1.now in
+    let s = c.args.store.now in
     let many : length (take header_size s) ≡ header_size = length-take-le header_size s (omega arith) in
     let zeros : c.clear.new.part ≡ replicate header_size 0 = c.clear.ensures ∙ ap (λ (n : ℕ). replicate n 0) many in
     making_done K s _ (omega arith) (omega arith) (omega arith) (ap (λ (z : List ℕ). set (z ++ drop header_size s) 0 K) zeros)
