@@ -86,8 +86,8 @@ fn weighed(logs: &[u32], store: &[u32], desk: Desk, kept: &mut [u8]) -> Least
 
 // Writes a weighed desk's rows from row `place` on.
 fn write(logs: &[u32], store: &[u32], desk: Desk, kept: &[u8], sheet: &mut [u32], place: u32)
-    requires { AreLogs logs.now × CanReportOn store.now desk × DecidedDesk store.now desk.number kept.now × (place + length (rows.reportOf (sitting_at store.now desk.number)) ≤ length sheet.old / row_width) }
-    ensures { sheet.new ≡ with_rows place (rows.reportOf (sitting_at store.now desk.number)) sheet.old }
+    requires { AreLogs logs.now × CanReportOn store.now desk × DecidedDesk store.now desk.number kept.now × (place + length (rows.report_of (sitting_at store.now desk.number)) ≤ length sheet.old / row_width) }
+    ensures { sheet.new ≡ with_rows place (rows.report_of (sitting_at store.now desk.number)) sheet.old }
 {
     let used = store[USED] as usize;
     let start = ROW_WIDTH * place as usize;

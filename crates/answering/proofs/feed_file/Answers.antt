@@ -9,7 +9,7 @@ use Rattle.answering.proofs.feed_file.Goals as goal
 use Rattle.answering.proofs.feed_file.Goals.{Start}
 
 -- the file is as long as its samples
-enough : (s : Start) → s.args.shape.first-1 + s.args.shape.second-1 ≤ length s.args.file.now
+enough : (s : Start) → s.args.shape.first + s.args.shape.second ≤ length s.args.file.now
 enough s = (accepted_holds s.args.file.now s.args.shape s.requires.0).enough
 
 pub overflow_sub-from : goal.overflow_sub-from

@@ -6,7 +6,7 @@ use Rattle.judgement.proofs.Telling.{told_refused, told_rows}
 use Rattle.answering.proofs.told.Goals as goal
 
 pub returns-in-Refused : goal.returns-in-Refused
-returns-in-Refused c = told_refused c.args.shape _ c.answer-1.given.1 c.number_of_lem.ensures
+returns-in-Refused c = told_refused c.args.shape _ c.answer.given.1 c.number_of_lem.ensures
 
 pub returns-in-Rows : goal.returns-in-Rows
 returns-in-Rows c =

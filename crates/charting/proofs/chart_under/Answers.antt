@@ -13,7 +13,7 @@ use Rattle.charting.proofs.chart_under.Goals as goal
 use Rattle.charting.proofs.chart_under.Goals.{After-table_of}
 
 pub overflow_cast-many : goal.overflow_cast-many
-overflow_cast-many c = omega (arith, c.shared_slice_known-2-1.given 1)
+overflow_cast-many c = omega (arith, c.type_inv.store 1)
 
 pub table_of-requires : goal.table_of-requires
 table_of-requires c = rw (tail_lent header_size c.args.store.now) c.requires.standing

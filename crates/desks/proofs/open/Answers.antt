@@ -18,57 +18,57 @@ use Rattle.calls.proofs.Keeping.{moves_unsound, moves_refused}
 use Rattle.changes.proofs.Granting.{no_desk, outside, heavy}
 use Rattle.changes.proofs.Vacant.{shut_there, open_there}
 use Rattle.desks.proofs.open.Goals as goal
-use Rattle.desks.proofs.open.Goals.{After-sound, After-sound;, Else-field_at-eq1, Else-field_at-eq1;, Else-not-sound}
+use Rattle.desks.proofs.open.Goals.{Else-field_at-eq1, Else-not-sound}
 
 -- ---- what each test has told
 
 passed : (c : Else-not-sound) → soundb c.args.store.now ≡ true
-passed c = sym c.sound.ensures ∙ not-false _ c.if-not-sound.false
+passed c = sym c.sound.ensures ∙ c.if-not-sound.false
 
-shut : (c : Else-field_at-eq1) → (let x = c.args in Open x.store-1.now x.desk → ⊥)
+shut : (c : Else-field_at-eq1) → (let x = c.args in Open x.store.now x.desk → ⊥)
 shut c o =
     let x = c.args in
-    let not-one : field x.store-1.now x.desk 0 ≡ 1 → ⊥ = omega arith in
-    not-one (eqb→eq (field x.store-1.now x.desk 0) 1 o.opened)
+    let not-one : field x.store.now x.desk 0 ≡ 1 → ⊥ = omega arith in
+    not-one (eqb→eq (field x.store.now x.desk 0) 1 o.opened)
 
 -- ---- the needs
 
 pub returns-then-not-sound : goal.returns-then-not-sound
 returns-then-not-sound c =
     let x = c.args in
-    moves_unsound x.store-1.now (at_desk x.desk (opening (naming x.alphabet x.depth x.weight x.reservation))) (sym c.sound.ensures ∙ not-true _ c.if-not-sound.true)
+    moves_unsound x.store.now (at_desk x.desk (opening (naming x.alphabet x.depth x.weight x.reservation))) (sym c.sound.ensures ∙ c.if-not-sound.true)
 
 pub returns-then-desk-ge-DESKS : goal.returns-then-desk-ge-DESKS
 returns-then-desk-ge-DESKS c =
     let x = c.args in
     let o = naming x.alphabet x.depth x.weight x.reservation in
-    moves_refused x.store-1.now (at_desk x.desk (opening o)) 2 (passed (goal.at.returns-then-desk-ge-DESKS c).Else-not-sound) (no_desk (meaning x.store-1.now) x.desk o c.if-desk-ge-DESKS.true)
+    moves_refused x.store.now (at_desk x.desk (opening o)) 2 (passed (goal.at.returns-then-desk-ge-DESKS c).Else-not-sound) (no_desk (meaning x.store.now) x.desk o c.if-desk-ge-DESKS.true)
 
 pub field_at-requires : goal.field_at-requires
 field_at-requires c =
     let x = c.args in
-    (header_long x.store-1.now (passed (goal.at.field_at-requires c).After-sound), c.if-desk-ge-DESKS.false, omega arith)
+    (header_long x.store.now (passed (goal.at.field_at-requires c).Else-not-sound), c.if-desk-ge-DESKS.false, omega arith)
 
 pub returns-then-field_at-eq1 : goal.returns-then-field_at-eq1
 returns-then-field_at-eq1 c =
     let x = c.args in
     let o = naming x.alphabet x.depth x.weight x.reservation in
-    let is_one : field x.store-1.now x.desk 0 ≡ 1 = omega arith in
-    moves_refused x.store-1.now (at_desk x.desk (opening o)) 3 (passed (goal.at.returns-then-field_at-eq1 c).After-sound) (open_there x.store-1.now x.desk o (record { desk = c.if-desk-ge-DESKS.false; opened = eq→eqb (field x.store-1.now x.desk 0) 1 is_one }))
+    let is_one : field x.store.now x.desk 0 ≡ 1 = omega arith in
+    moves_refused x.store.now (at_desk x.desk (opening o)) 3 (passed (goal.at.returns-then-field_at-eq1 c).Else-not-sound) (open_there x.store.now x.desk o (record { desk = c.if-desk-ge-DESKS.false; opened = eq→eqb (field x.store.now x.desk 0) 1 is_one }))
 
 pub returns-then-outside_limits : goal.returns-then-outside_limits
 returns-then-outside_limits c =
     let x = c.args in
     let o = naming x.alphabet x.depth x.weight x.reservation in
-    moves_refused x.store-1.now (at_desk x.desk (opening o)) 5 (passed (goal.at.returns-then-outside_limits c).After-sound) (outside (meaning x.store-1.now) x.desk o c.if-desk-ge-DESKS.false (shut_there x.store-1.now x.desk (shut (goal.at.returns-then-outside_limits c).Else-field_at-eq1)) (sym (c.outside_limits.ensures x.weight x.reservation) ∙ c.if-outside_limits.true))
+    moves_refused x.store.now (at_desk x.desk (opening o)) 5 (passed (goal.at.returns-then-outside_limits c).Else-not-sound) (outside (meaning x.store.now) x.desk o c.if-desk-ge-DESKS.false (shut_there x.store.now x.desk (shut (goal.at.returns-then-outside_limits c).Else-field_at-eq1)) (sym (c.outside_limits.ensures x.weight x.reservation) ∙ c.if-outside_limits.true))
 
 pub returns-then-weight-gt-MOST_WEIGHT : goal.returns-then-weight-gt-MOST_WEIGHT
 unfolding weight_outside
 returns-then-weight-gt-MOST_WEIGHT c =
     let x = c.args in
     let o = naming x.alphabet x.depth x.weight x.reservation in
-    moves_refused x.store-1.now (at_desk x.desk (opening o)) 20 (passed (goal.at.returns-then-weight-gt-MOST_WEIGHT c).After-sound)
-    (heavy (meaning x.store-1.now) x.desk o c.if-desk-ge-DESKS.false (shut_there x.store-1.now x.desk (shut (goal.at.returns-then-weight-gt-MOST_WEIGHT c).Else-field_at-eq1))
+    moves_refused x.store.now (at_desk x.desk (opening o)) 20 (passed (goal.at.returns-then-weight-gt-MOST_WEIGHT c).Else-not-sound)
+    (heavy (meaning x.store.now) x.desk o c.if-desk-ge-DESKS.false (shut_there x.store.now x.desk (shut (goal.at.returns-then-weight-gt-MOST_WEIGHT c).Else-field_at-eq1))
     (sym (c.outside_limits.ensures x.weight x.reservation) ∙ c.if-outside_limits.false) (lt-ltb most_weight x.weight c.if-weight-gt-MOST_WEIGHT.true))
 
 pub open_reserving-requires : goal.open_reserving-requires
@@ -76,7 +76,7 @@ unfolding weight_outside
 open_reserving-requires c =
     let x = c.args in
     record {
-      sound = passed (goal.at.open_reserving-requires c).After-sound;
+      sound = passed (goal.at.open_reserving-requires c).Else-not-sound;
       desk = c.if-desk-ge-DESKS.false;
       shut = shut (goal.at.open_reserving-requires c).Else-field_at-eq1;
       limits = sym (c.outside_limits.ensures x.weight x.reservation) ∙ c.if-outside_limits.false;

@@ -11,7 +11,7 @@ use Rattle.changes.proofs.Granting.{zero_reserved, above_room, above_left}
 use Rattle.changes.proofs.Vacant.{ready_there, room_made_lem}
 use Rattle.changes.proofs.Beginning.{opened_moves}
 use Rattle.desks.proofs.open_reserving.Goals as goal
-use Rattle.desks.proofs.open_reserving.Goals.{After-slice_known-1, After-slice_known-1;, Else-reservation-eq0}
+use Rattle.desks.proofs.open_reserving.Goals.{Else-reservation-eq0}
 
 some : (c : Else-reservation-eq0) → 1 ≤ c.args.reservation
 some c = let n = c.if-reservation-eq0.false in omega arith
@@ -21,7 +21,7 @@ returns-then-reservation-eq0 c =
     let x = c.args in
     let p = c.requires in
     let o = naming x.alphabet x.depth x.weight x.reservation in
-    moves_refused x.store-1.now (at_desk x.desk (opening o)) 6 p.sound (zero_reserved (meaning x.store-1.now) x.desk o (ready_there x.store-1.now x.desk o p) c.if-reservation-eq0.true)
+    moves_refused x.store.now (at_desk x.desk (opening o)) 6 p.sound (zero_reserved (meaning x.store.now) x.desk o (ready_there x.store.now x.desk o p) c.if-reservation-eq0.true)
 
 pub bounds-store-0 : goal.bounds-store-0
 bounds-store-0 c = omega (arith, header_long c.args.store.now c.requires.sound)
@@ -31,7 +31,7 @@ returns-then-room-reservation c =
     let x = c.args in
     let p = c.requires in
     let o = naming x.alphabet x.depth x.weight x.reservation in
-    moves_refused x.store-1.now (at_desk x.desk (opening o)) 6 p.sound (above_room (meaning x.store-1.now) x.desk o (ready_there x.store-1.now x.desk o p) (some (goal.at.returns-then-room-reservation c).Else-reservation-eq0) (rw (room_made_lem x.store-1.now) c.if-room-reservation.true))
+    moves_refused x.store.now (at_desk x.desk (opening o)) 6 p.sound (above_room (meaning x.store.now) x.desk o (ready_there x.store.now x.desk o p) (some (goal.at.returns-then-room-reservation c).Else-reservation-eq0) (rw (room_made_lem x.store.now) c.if-room-reservation.true))
 
 pub left_in-free-requires : goal.left_in-free-requires
 left_in-free-requires c = c.requires.sound
@@ -41,8 +41,8 @@ returns-then-free-reservation c =
     let x = c.args in
     let p = c.requires in
     let o = naming x.alphabet x.depth x.weight x.reservation in
-    moves_refused x.store-1.now (at_desk x.desk (opening o)) 7 p.sound
-    (above_left (meaning x.store-1.now) x.desk o (ready_there x.store-1.now x.desk o p) (some (goal.at.returns-then-free-reservation c).After-slice_known-1) (rw (room_made_lem x.store-1.now) c.if-room-reservation.false) (rw (← c.left_in-free.ensures) c.if-free-reservation.true))
+    moves_refused x.store.now (at_desk x.desk (opening o)) 7 p.sound
+    (above_left (meaning x.store.now) x.desk o (ready_there x.store.now x.desk o p) (some (goal.at.returns-then-free-reservation c).Else-reservation-eq0) (rw (room_made_lem x.store.now) c.if-room-reservation.false) (rw (← c.left_in-free.ensures) c.if-free-reservation.true))
 
 pub set_up-requires : goal.set_up-requires
 set_up-requires c =
@@ -53,10 +53,10 @@ returns c =
     let x = c.args in
     let p = c.requires in
     let o = naming x.alphabet x.depth x.weight x.reservation in
-    opened_moves x.store-1.now c.set_up.new.store x.desk o p.sound p.shut
+    opened_moves x.store.now c.set_up.new.store x.desk o p.sound p.shut
     (record {
-      ready = ready_there x.store-1.now x.desk o p;
-      some = some (goal.at.returns c).After-slice_known-1;
-      in_room = rw (room_made_lem x.store-1.now) c.if-room-reservation.false;
+      ready = ready_there x.store.now x.desk o p;
+      some = some (goal.at.returns c).Else-reservation-eq0;
+      in_room = rw (room_made_lem x.store.now) c.if-room-reservation.false;
       fits = rw (← c.left_in-free.ensures) c.if-free-reservation.false;
     }) c.set_up.ensures

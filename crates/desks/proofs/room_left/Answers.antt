@@ -13,10 +13,10 @@ use Rattle.desks.proofs.room_left.Goals as goal
 use Rattle.desks.proofs.room_left.Goals.{Else-not-sound}
 
 passed : (c : Else-not-sound) → soundb c.args.store.now ≡ true
-passed c = sym c.sound.ensures ∙ not-false _ c.if-not-sound.false
+passed c = sym c.sound.ensures ∙ c.if-not-sound.false
 
 pub returns-then-not-sound : goal.returns-then-not-sound
-returns-then-not-sound c = asks_unsound c.args.store.now room_question (sym c.sound.ensures ∙ not-true _ c.if-not-sound.true)
+returns-then-not-sound c = asks_unsound c.args.store.now room_question (sym c.sound.ensures ∙ c.if-not-sound.true)
 
 pub left_in-requires : goal.left_in-requires
 left_in-requires c = passed c

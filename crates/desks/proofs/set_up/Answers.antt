@@ -8,4 +8,4 @@ pub returns : goal.returns
 returns c =
     let x = c.args in
     let laid = c.lay_out in
-    opened_now x.store-1.now x.desk (naming x.alphabet x.depth x.weight x.reservation) c.requires.0 c.requires.1 laid.new.0 laid.ensures
+    opened_now x.store.now x.desk (naming x.alphabet x.depth x.weight x.reservation) c.requires.0 c.requires.1 laid.new.part laid.ensures

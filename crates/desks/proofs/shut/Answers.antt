@@ -8,7 +8,7 @@ use Rattle.store.specs.Layout.{used}
 use Rattle.store.proofs.Passing.{passed, header_long}
 use Rattle.changes.proofs.Removal.{lent, back, removable, few_left, back_long, closed_now}
 use Rattle.desks.proofs.shut.Goals as goal
-use Rattle.desks.proofs.shut.Goals.{After-remove_desk-kept, After-remove_desk-kept,}
+use Rattle.desks.proofs.shut.Goals.{After-remove_desk-kept}
 
 -- the records' part comes back as long as it was
 part-long : (c : After-remove_desk-kept) → length c.remove_desk-kept.new.numbers ≡ length (lent c.args.store.now)
@@ -26,7 +26,7 @@ pub bounds-store-1 : goal.bounds-store-1
 bounds-store-1 c = omega (arith, header_long c.args.store.now c.requires.0)
 
 pub overflow_cast-used : goal.overflow_cast-used
-overflow_cast-used c = omega (arith, c.slice_known-2-1.given 1)
+overflow_cast-used c = omega (arith, c.type_inv.store 1)
 
 pub slice_bounds-remove_desk-count : goal.slice_bounds-remove_desk-count
 slice_bounds-remove_desk-count c = omega (arith, header_long c.args.store.now c.requires.0)
@@ -54,4 +54,4 @@ bounds-store-desk c =
 pub returns : goal.returns
 returns c =
     let gone = c.remove_desk-kept in
-    closed_now c.args.store.now c.args.desk c.requires.0 c.requires.1 gone.new.0 gone.result (part-long (goal.at.returns c).After-remove_desk-kept) gone.ensures _ _ (omega arith) (omega arith)
+    closed_now c.args.store.now c.args.desk c.requires.0 c.requires.1 gone.new.numbers gone.result (part-long (goal.at.returns c).After-remove_desk-kept) gone.ensures _ _ (omega arith) (omega arith)

@@ -10,4 +10,4 @@ feed_sound-requires c = sym c.sound.ensures ∙ c.if-sound.true
 pub returns : goal.returns
 returns c =
     let x = c.args in
-    moves_unsound x.store-1.now _ (sym c.sound.ensures ∙ c.if-sound.false)
+    moves_unsound x.store.now _ (sym c.sound.ensures ∙ c.if-sound.false)

@@ -10,4 +10,4 @@ feed_run-requires c = sym c.sound.ensures ∙ c.if-sound.true
 pub returns : goal.returns
 returns c =
     let x = c.args in
-    run_unsound x.store-1.now x.desk x.sample x.symbols.now (sym c.sound.ensures ∙ c.if-sound.false)
+    run_unsound x.store.now x.desk x.sample x.symbols.now (sym c.sound.ensures ∙ c.if-sound.false)

@@ -12,18 +12,18 @@ use Rattle.feeding.proofs.feed_counted.Goals.{After-recent_of-latest}
 
 -- the first `many` of the six places are the recent symbols
 latest : (c : After-recent_of-latest) → (let r = c.recent_of-latest.result in let x = c.args in
-    (r.many ≤ length r.symbols-1) × (take r.many r.symbols-1 ≡ recent_at x.store-1.now x.desk (sample_of x.sample)))
+    (r.many ≤ length r.symbols) × (take r.many r.symbols ≡ recent_at x.store.now x.desk (sample_of x.sample)))
 latest c =
     let r = c.recent_of-latest.result in
     let x = c.args in
-    copied_recent x.store-1.now x.desk x.sample c.requires.0.sound c.requires.0.at_open c.requires.0.of_samples c.requires.1 r.many r.symbols-1 c.recent_of-latest.ensures
+    copied_recent x.store.now x.desk x.sample c.requires.0.sound c.requires.0.at_open c.requires.0.of_samples c.requires.1 r.many r.symbols c.recent_of-latest.ensures
 
 pub slice_bounds-symbols-end : goal.slice_bounds-symbols-end
 slice_bounds-symbols-end c = (latest (goal.at.slice_bounds-symbols-end c).After-recent_of-latest).0
 
 pub slice_bounds-feed_after-end : goal.slice_bounds-feed_after-end
 slice_bounds-feed_after-end c =
-    sym (length-take-le c.recent_of-latest.result.many c.recent_of-latest.result.symbols-1 (latest (goal.at.slice_bounds-feed_after-end c).After-recent_of-latest).0)
+    sym (length-take-le c.recent_of-latest.result.many c.recent_of-latest.result.symbols (latest (goal.at.slice_bounds-feed_after-end c).After-recent_of-latest).0)
 
 pub feed_after-requires : goal.feed_after-requires
 feed_after-requires c =

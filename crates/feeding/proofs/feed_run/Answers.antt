@@ -15,10 +15,7 @@ use Rattle.feeding.proofs.feed_run.Goals as goal
 pub loop-done-init : goal.loop-done-init
 loop-done-init c =
     let x = c.args in
-    ran_start x.store-1.now x.desk x.sample x.symbols.now c.requires
-
-pub overflow_cast-symbols : goal.overflow_cast-symbols
-overflow_cast-symbols c = omega (arith, c.shared_slice_known-in-loop-done-1.given c.loop-done.done)
+    ran_start x.store.now x.desk x.sample x.symbols.now c.requires
 
 pub feed_sound-requires : goal.feed_sound-requires
 feed_sound-requires c = c.loop-done.invariant.sound
@@ -28,8 +25,8 @@ loop-done-preserved c =
     let x = c.args in
     let at = c.loop-done in
     let fed = c.feed_sound in
-    let told : fed.result ≡ Done = c.enum_told-1.given.1 in
-    ran_on x.store-1.now x.desk x.sample x.symbols.now at.store-1 at.done at.invariant fed.new.0 (omega arith) (subst (λ (v : Verdict). Moves at.store-1 (feeding x.desk x.sample (get_or x.symbols.now at.done 0)) (outcome_of v) fed.new.0) told fed.ensures)
+    let told : fed.result ≡ Done = c.in-Done.is in
+    ran_on x.store.now x.desk x.sample x.symbols.now at.store at.done at.invariant fed.new.store (omega arith) (subst (λ (v : Verdict). Moves at.store (feeding x.desk x.sample (get_or x.symbols.now at.done 0)) (outcome_of v) fed.new.store) told fed.ensures)
 
 pub shape_of-store-in-Refused : goal.shape_of-store-in-Refused
 shape_of-store-in-Refused c = c.feed_sound.ensures.length_stays ∙ c.loop-done.invariant.long
@@ -39,10 +36,10 @@ returns-in-Refused c =
     let x = c.args in
     let at = c.loop-done in
     let fed = c.feed_sound in
-    let why = c.why-1.given.0.0 in
-    let told : fed.result ≡ Refused why = c.why-1.given.1 in
-    ran_refused x.store-1.now x.desk x.sample x.symbols.now at.store-1 at.done at.invariant fed.new.0 (refusal_number why) c.requires (omega arith)
-    (subst (λ (v : Verdict). Moves at.store-1 (feeding x.desk x.sample (get_or x.symbols.now at.done 0)) (outcome_of v) fed.new.0) told fed.ensures)
+    let why = c.in-Refused.why in
+    let told : fed.result ≡ Refused why = c.in-Refused.is in
+    ran_refused x.store.now x.desk x.sample x.symbols.now at.store at.done at.invariant fed.new.store (refusal_number why) c.requires (omega arith)
+    (subst (λ (v : Verdict). Moves at.store (feeding x.desk x.sample (get_or x.symbols.now at.done 0)) (outcome_of v) fed.new.store) told fed.ensures)
 
 pub shape_of-store : goal.shape_of-store
 shape_of-store c = c.loop-done.invariant.long
@@ -51,4 +48,4 @@ pub returns : goal.returns
 returns c =
     let x = c.args in
     let at = c.loop-done in
-    ran_whole x.store-1.now x.desk x.sample x.symbols.now at.store-1 at.done at.invariant c.requires (omega arith)
+    ran_whole x.store.now x.desk x.sample x.symbols.now at.store at.done at.invariant c.requires (omega arith)

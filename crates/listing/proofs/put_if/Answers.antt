@@ -6,16 +6,16 @@ use borrow.Author.Rules.{rules}
 use Rattle.listing.proofs.put_if.Goals as goal
 
 pub returns-then-not-on : goal.returns-then-not-on
-returns-then-not-on c = let x = c.args in if_none x.sheet-1.now x.to x.on x.kind x.len x.code x.counts (not-true _ c.if-not-on.true)
+returns-then-not-on c = let x = c.args in if_none x.sheet.now x.to x.on x.kind x.len x.code x.counts c.if-not-on.true
 
 pub slice_bounds-put_row-end : goal.slice_bounds-put_row-end
 slice_bounds-put_row-end c =
     let x = c.args in
-    omega (arith, c.requires.room, if_long x.on x.kind x.len x.code x.counts (not-false _ c.if-not-on.false))
+    omega (arith, c.requires.room, if_long x.on x.kind x.len x.code x.counts c.if-not-on.false)
 
 pub returns : goal.returns
 returns c =
     let x = c.args in
-    let on = not-false _ c.if-not-on.false in
-    if_one x.sheet-1.now c.put_row.new.part x.to x.on x.kind x.len x.code x.counts on
+    let on = c.if-not-on.false in
+    if_one x.sheet.now c.put_row.new.part x.to x.on x.kind x.len x.code x.counts on
     (omega (arith, c.requires.room, if_long x.on x.kind x.len x.code x.counts on)) c.put_row.ensures

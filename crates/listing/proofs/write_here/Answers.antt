@@ -12,7 +12,7 @@ put_here-requires c =
     let x = c.args in
     let t = c.table_of-counts in
     let p = c.plan_of-plan in
-    let is : p.result ≡ kept_plan x.n x.numbers.now x.kept.now x.costs x.spot = p.ensures ∙ ap (plan_of x.spot.way-1) c.mark_of.ensures in
+    let is : p.result ≡ kept_plan x.n x.numbers.now x.kept.now x.costs x.spot = p.ensures ∙ ap (plan_of x.spot.way) c.mark_of.ensures in
     roomy_as p.result _ x.len x.spot.code t.result _ is t.ensures _ x.to c.requires.roomy
 
 pub returns : goal.returns
@@ -21,8 +21,8 @@ returns c =
     let t = c.table_of-counts in
     let p = c.plan_of-plan in
     let g = c.put_here in
-    let is : p.result ≡ kept_plan x.n x.numbers.now x.kept.now x.costs x.spot = p.ensures ∙ ap (plan_of x.spot.way-1) c.mark_of.ensures in
+    let is : p.result ≡ kept_plan x.n x.numbers.now x.kept.now x.costs x.spot = p.ensures ∙ ap (plan_of x.spot.way) c.mark_of.ensures in
     record {
-      way_is = ap (λ (q : Plan). q.next-1) is;
-      written = written_as p.result _ x.len x.spot.code t.result _ is t.ensures x.sheet-1.now g.new.0 x.to g.result g.ensures;
+      way_is = ap (λ (q : Plan). q.next) is;
+      written = written_as p.result _ x.len x.spot.code t.result _ is t.ensures x.sheet.now g.new.sheet x.to g.result g.ensures;
     }

@@ -15,17 +15,17 @@ write_from-requires c =
     let costs = c.costs_of-costs in
     let w = c.requires.1.weighable in
     subst
-    (λ (u : List ℕ). CanWrite x.desk costs.result x.n x.numbers.now x.kept.now (length x.sheet-1.now) u (whole.root_spot x.desk x.n x.numbers.now w) 0)
+    (λ (u : List ℕ). CanWrite x.desk costs.result x.n x.numbers.now x.kept.now (length x.sheet.now) u (whole.root_spot x.desk x.n x.numbers.now w) 0)
     (sym (root_is x.desk))
-    (whole.root_can x.desk x.n x.numbers.now w x.kept.now x.sheet-1.now c.requires.1 costs.result costs.ensures)
+    (whole.root_can x.desk x.n x.numbers.now w x.kept.now x.sheet.now c.requires.1 costs.result costs.ensures)
 
 pub returns : goal.returns
 returns c =
     let x = c.args in
     let w = c.requires.1.weighable in
     let g = c.write_from in
-    whole.reported x.desk x.n x.numbers.now w x.sheet-1.now g.new.1.1.1.1.1.0 g.result
+    whole.reported x.desk x.n x.numbers.now w x.sheet.now g.new.sheet g.result
     (subst
-    (λ (u : List ℕ). WroteAt x.sheet-1.now g.new.1.1.1.1.1.0 0 (rows_from x.desk x.n x.numbers.now u (whole.root_spot x.desk x.n x.numbers.now w)) g.result)
+    (λ (u : List ℕ). WroteAt x.sheet.now g.new.sheet 0 (rows_from x.desk x.n x.numbers.now u (whole.root_spot x.desk x.n x.numbers.now w)) g.result)
     (root_is x.desk)
     g.ensures)

@@ -1,5 +1,4 @@
 -- `printing::magnitude` meets its contract: a negative number is stepped up, negated, and one is added, so that nothing wraps. Assumes nothing.
-use borrow.Author.Rules.{rules}
 use Rattle.printing.proofs.Negative.{next_fits, flipped_fits, flipped_cast, one_more_fits, is_magnitude, from_zero}
 use Rattle.printing.proofs.magnitude.Goals as goal
 

@@ -1,6 +1,5 @@
 -- `printing::put_five` meets its contract: the same line, of an array. Assumes nothing.
 use mir.Facts.{to_z-of_z}
-use borrow.Author.Rules.{rules}
 use Rattle.printing.proofs.put_five.Goals as goal
 
 pub returns : goal.returns

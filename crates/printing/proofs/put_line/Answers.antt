@@ -1,17 +1,15 @@
 -- `printing::put_line` meets its contract: after i turns the first i numbers are put, each with its blank. Assumes nothing.
-use Prim.Native.Nat.{◌-◌, ◌≤◌}
 use native.Mathlib.Omega.{arith}
 use mathlib.Core.List.{[], ◌∷◌, ◌++◌, map}
 use lib.IntN.{pos}
-use lib.ListN.{length, take}
 use mir.Facts.{to_z-of_z}
 use Rattle.printing.specs.Text.{line_of}
-use Rattle.placing.specs.Placing.{Puts}
 use Rattle.placing.proofs.Laws.{puts_length, puts_none}
-use Rattle.printing.proofs.Lines.{parted, Begun, room_number, room_blank, puts_number, room_end, room_feed, puts_line}
+use Rattle.printing.proofs.Lines.{Begun, room_number, room_blank, puts_number, room_end, room_feed, puts_line}
 use Rattle.printing.proofs.put_line.Goals as goal
+use Rattle.printing.proofs.put_line.Goals.{At-loop-i}
 
-begun : (l : goal.At-loop-i) → Begun l.args.numbers.now l.args.last l.args.at l.args.buffer-1.now l.loop-i.i l.loop-i.buffer-1 l.loop-i.next
+begun : (l : At-loop-i) → Begun l.args.numbers.now l.args.last l.args.at l.args.buffer.now l.loop-i.i l.loop-i.buffer l.loop-i.next
 begun l = record { room = l.requires; so_far = l.loop-i.invariant.1 }
 
 pub loop-i-init : goal.loop-i-init
@@ -43,4 +41,4 @@ returns c =
 
 pub shape_of-buffer : goal.shape_of-buffer
 shape_of-buffer c =
-    puts_length (line_of (map pos c.args.numbers.now ++ (c.args.last ∷ []))) c.args.at c.args.buffer-1.now c.requires _ _ (returns c)
+    puts_length (line_of (map pos c.args.numbers.now ++ (c.args.last ∷ []))) c.args.at c.args.buffer.now c.requires _ _ (returns c)

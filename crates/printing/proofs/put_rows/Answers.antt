@@ -1,19 +1,18 @@
 -- `printing::put_rows` meets its contract: after k turns the first k rows are put. Assumes nothing.
-use Prim.Native.Nat.{◌-◌, ◌≤◌}
 use native.Mathlib.Omega.{arith}
 use mathlib.Core.Path.{◌≡◌}
 use Rattle.printing.specs.Text.{rows_text}
-use Rattle.placing.specs.Placing.{Puts}
 use Rattle.placing.proofs.Laws.{puts_length, puts_none}
 use Rattle.printing.proofs.Reports.{row_lent, Begun, row_long, room_row, puts_row}
 use Rattle.printing.proofs.put_rows.Goals as goal
+use Rattle.printing.proofs.put_rows.Goals.{At-loop-k}
 
 pub loop-k-init : goal.loop-k-init
 unfolding rows_text
 loop-k-init c = (omega arith, puts_none _ _)
 
-begun : (l : goal.At-loop-k) → Begun l.args.alphabet l.args.rows l.args.sheet.now l.args.at l.args.buffer-1.now l.loop-k.k l.loop-k.buffer-1 l.loop-k.next
-begun l = record { known = l.requires.0; room = l.requires.1; so_far = l.loop-k.invariant.1 }
+begun : (l : At-loop-k) → Begun l.args.alphabet l.args.rows l.args.sheet.now l.args.at l.args.buffer.now l.loop-k.k l.loop-k.buffer l.loop-k.next
+begun l = record { known = l.requires.printable; room = l.requires.has_room; so_far = l.loop-k.invariant.1 }
 
 pub put_row-next-requires : goal.put_row-next-requires
 put_row-next-requires c =
@@ -29,4 +28,4 @@ returns c =
     rw (← e) c.loop-k.invariant.1
 
 pub shape_of-buffer : goal.shape_of-buffer
-shape_of-buffer c = puts_length (rows_text c.args.alphabet c.args.rows c.args.sheet.now) c.args.at c.args.buffer-1.now c.requires.1 _ _ (returns c)
+shape_of-buffer c = puts_length (rows_text c.args.alphabet c.args.rows c.args.sheet.now) c.args.at c.args.buffer.now c.requires.has_room _ _ (returns c)

@@ -1,11 +1,7 @@
 -- `printing::put_rows` meets its contract: after k turns the first k rows are put. Assumes nothing.
 use Prim.Native.Nat.{◌-◌, ◌≤◌}
-use native.Mathlib.Omega.{arith}
-use mathlib.Core.Path.{◌≡◌}
 use Rattle.printing.specs.Text.{rows_text}
 use Rattle.placing.specs.Placing.{Puts}
-use Rattle.placing.proofs.Laws.{puts_length, puts_none}
-use Rattle.printing.proofs.Reports.{row_lent, Begun, row_long, room_row, puts_row}
 use Rattle.printing.proofs.put_rows.Given as goal
 
 abbrev pub invariant-loop-k : goal.invariant-loop-k

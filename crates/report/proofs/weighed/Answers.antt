@@ -9,25 +9,18 @@ use Rattle.store.specs.Layout.{header_size, used}
 use Rattle.weighing.specs.Weighs.{Weighs}
 use Rattle.report.proofs.ByValue.{sized, can_weigh, has_weighed}
 use Rattle.report.proofs.weighed.Goals as goal
-use Rattle.report.proofs.weighed.Goals.{After-shared_slice_known-3-1, Start}
-
-start : After-shared_slice_known-3-1 → Start
-start c = c.before.before.before.before
 
 pub bounds-store-1 : goal.bounds-store-1
-unfolding start
-bounds-store-1 c = let h = sized (start c).args.store.now (start c).args.desk (start c).requires.1 in omega arith
+bounds-store-1 c = let h = sized c.args.store.now c.args.desk c.requires.1 in omega arith
 
 pub overflow_cast-used : goal.overflow_cast-used
-overflow_cast-used c = omega (arith, c.shared_slice_known-3-1.given 1)
+overflow_cast-used c = omega (arith, c.type_inv.store 1)
 
 pub slice_bounds-weigh-count : goal.slice_bounds-weigh-count
-unfolding start
-slice_bounds-weigh-count c = let h = sized (start c).args.store.now (start c).args.desk (start c).requires.1 in omega arith
+slice_bounds-weigh-count c = let h = sized c.args.store.now c.args.desk c.requires.1 in omega arith
 
 pub slice_bounds-weigh-start : goal.slice_bounds-weigh-start
-unfolding start
-slice_bounds-weigh-start c = let h = sized (start c).args.store.now (start c).args.desk (start c).requires.1 in omega arith
+slice_bounds-weigh-start c = let h = sized c.args.store.now c.args.desk c.requires.1 in omega arith
 
 pub weigh-requires : goal.weigh-requires
 weigh-requires c =
@@ -35,5 +28,5 @@ weigh-requires c =
 
 pub returns : goal.returns
 returns c =
-    has_weighed c.args.store.now c.args.desk c.requires.1 c.args.kept.now c.weigh.new.1.1.1.1.0 c.weigh.result
-    (subst (λ (l : List ℕ). Weighs c.args.desk (used c.args.store.now) l c.args.kept.now c.weigh.new.1.1.1.1.0 c.weigh.result) (tail_lent header_size c.args.store.now) c.weigh.ensures)
+    has_weighed c.args.store.now c.args.desk c.requires.1 c.args.kept.now c.weigh.new.kept c.weigh.result
+    (subst (λ (l : List ℕ). Weighs c.args.desk (used c.args.store.now) l c.args.kept.now c.weigh.new.kept c.weigh.result) (tail_lent header_size c.args.store.now) c.weigh.ensures)

@@ -23,18 +23,17 @@ pub slice_bounds-write_rows-start : goal.slice_bounds-write_rows-start
 slice_bounds-write_rows-start c = let h = sized c.args.store.now c.args.desk c.requires.1 in omega arith
 
 pub write_rows-requires : goal.write_rows-requires
-write_rows-requires c =
-    (
-      c.requires.0,
-      rw (tail_lent header_size c.args.store.now, tail_lent (row_width * c.args.place) c.args.sheet.now)
-          (can_write c.args.store.now c.args.desk c.requires.1 c.args.place c.args.sheet.now c.requires.3 c.args.kept.now c.requires.2),
-    )
+write_rows-requires c = (
+  c.requires.0,
+  rw (tail_lent header_size c.args.store.now, tail_lent (row_width * c.args.place) c.args.sheet.now)
+      (can_write c.args.store.now c.args.desk c.requires.1 c.args.place c.args.sheet.now c.requires.3 c.args.kept.now c.requires.2),
+)
 
 pub returns : goal.returns
 returns c =
     let store = c.args.store.now in
     let sheet = c.args.sheet.now in
-    let part = c.write_rows.new.1.1.1.1.1.0 in
+    let part = c.write_rows.new.sheet in
     has_written store c.args.desk c.requires.1 c.args.place sheet c.requires.3 part _
     (subst (λ (l : List ℕ). Listed c.args.desk (used store) l (drop (row_width * c.args.place) sheet) part) (tail_lent header_size store)
     (subst (λ (l : List ℕ). Listed c.args.desk (used store) (take (length store - header_size) (drop header_size store)) l part) (tail_lent (row_width * c.args.place) sheet) c.write_rows.ensures))

@@ -1,11 +1,7 @@
 -- `salvage::kept` meets its contract: the bytes before a place, and what is kept from there on. Assumes nothing.
-use Prim.Native.Nat.{◌≤◌, ◌-◌}
 use native.Mathlib.Omega.{arith}
-use mathlib.Core.Path.{◌≡◌, refl, sym}
-use mathlib.Core.List.{◌++◌}
-use lib.ListN.{length, take, drop}
+use mathlib.Core.Path.{refl, sym}
 use lib.Seq.{length-take-le}
-use Rattle.salvage.specs.Salvage.{kept_bytes}
 use Rattle.salvage.proofs.Keeping.{kept_on, kept_ends, kept_whole}
 use Rattle.salvage.proofs.kept.Goals as goal
 

@@ -1,12 +1,9 @@
 -- `salvage::kept` meets its contract: the bytes before a place, and what is kept from there on. Assumes nothing.
 use Prim.Native.Nat.{◌≤◌, ◌-◌}
-use native.Mathlib.Omega.{arith}
-use mathlib.Core.Path.{◌≡◌, refl, sym}
+use mathlib.Core.Path.{◌≡◌}
 use mathlib.Core.List.{◌++◌}
 use lib.ListN.{length, take, drop}
-use lib.Seq.{length-take-le}
 use Rattle.salvage.specs.Salvage.{kept_bytes}
-use Rattle.salvage.proofs.Keeping.{kept_on, kept_ends, kept_whole}
 use Rattle.salvage.proofs.kept.Given as goal
 
 abbrev pub invariant-loop-i : goal.invariant-loop-i

@@ -1,12 +1,11 @@
 -- `salvage::salvage` meets its contract: a faulty header, or what is saved behind a whole one. Assumes nothing.
-use mathlib.Core.Path.{sym, ◌∙◌}
-use borrow.Author.Rules.{rules}
+use mathlib.Core.Path.{sym}
 use Rattle.salvage.proofs.Answers.{fault_stays}
 use Rattle.salvage.proofs.salvage.Goals as goal
 
 pub save-requires : goal.save-requires
-save-requires c = sym c.header.ensures ∙ c.shape-1.given.1
+save-requires c = sym c.in-Whole.ensures
 
 pub returns-in-Faulty : goal.returns-in-Faulty
 returns-in-Faulty c =
-    (fault_stays c.args.damaged.now c.args.file-1.now _ (sym c.header.ensures ∙ c.why-1.given.1), tt)
+    (fault_stays c.args.damaged.now c.args.file.now _ (sym c.in-Faulty.ensures), tt)

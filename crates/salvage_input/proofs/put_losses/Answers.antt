@@ -5,7 +5,6 @@ use mathlib.Core.Path.{sym, subst, ◌∙◌}
 use mir.Syntax.{w64}
 use mir.Val.{SFits}
 use mir.Facts.{to_z-of_z}
-use borrow.Author.Rules.{rules}
 use Rattle.salvage_input.specs.Filter.{most_told}
 use Rattle.salvage_input.proofs.put_losses.Goals as goal
 

@@ -1,7 +1,6 @@
 -- `sitting_file::symbols_from` meets its contract: at each turn the symbols that are left decide the answer. Assumes nothing.
-use mathlib.Core.Path.{◌≡◌, refl, sym, ◌∙◌}
+use mathlib.Core.Path.{◌≡◌}
 use Rattle.sitting_file.specs.Format.{symbols_from}
-use Rattle.sitting_file.proofs.Places.{symbol_refused, symbol_read, all_read, more_bytes}
 use Rattle.sitting_file.proofs.symbols_from.Given as goal
 
 abbrev pub invariant-loop-left : goal.invariant-loop-left

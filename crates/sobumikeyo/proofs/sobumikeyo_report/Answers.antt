@@ -7,8 +7,8 @@ use Rattle.sobumikeyo.proofs.sobumikeyo_report.Goals as goal
 
 pub returns-in-Refused : goal.returns-in-Refused
 returns-in-Refused c =
-    report_refused c.report.result c.report.ensures c.why-1.given.1 c.number_of_lem.ensures
+    report_refused c.report.result c.report.ensures c.why.given.1 c.number_of_lem.ensures
 
 pub returns-in-Rows : goal.returns-in-Rows
 returns-in-Rows c =
-    report_told c.report.result c.report.ensures c.count-1.given.1 (to_z-of_z w64 c.count-1.given.0.1.0 (record { sfits = c.known_told-in-Rows-1.given.1.0.1 }))
+    report_told c.report.result c.report.ensures c.count.given.1 (to_z-of_z w64 c.count.given.0.1.0 (record { sfits = c.known_told-in-Rows-1.given.1.0.1 }))

@@ -1,11 +1,7 @@
 -- `writing::all_below` meets its contract: what is left of the symbols decides. Assumes nothing.
 use Prim.Native.Nat.{◌≤◌, ◌-◌}
-use native.Mathlib.Omega.{arith}
-use mathlib.Core.Path.{◌≡◌, refl, sym, ◌∙◌}
-use borrow.Author.Tests.{lt-ltb, le-ltb}
-use lib.Dec.{ltb}
-use lib.ListN.{length, drop, get_or}
-use Rattle.numbers.proofs.Every.{all_step, all_end}
+use mathlib.Core.Path.{◌≡◌}
+use lib.ListN.{length, drop}
 use Rattle.writing.specs.Writing.{all_below}
 use Rattle.writing.proofs.all_below.Given as goal
 

@@ -1,7 +1,6 @@
 -- `writing::number_size` meets its contract: one group or two. Assumes nothing.
 use native.Mathlib.Omega.{arith}
 use mathlib.Core.Path.{sym}
-use borrow.Author.Rules.{rules}
 use Rattle.writing.proofs.Sizes.{one_long, two_long}
 use Rattle.writing.proofs.number_size.Goals as goal
 
