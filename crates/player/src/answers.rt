@@ -1,101 +1,99 @@
 // The answers as lines on standard output.
 use calls::{ChartAnswer, Ending, Fed, Refusal, RoomLeft, Verdict, number_of};
 use chart::Chart;
-use libc::STDOUT_FILENO;
 use printing::magnitude;
 
-// The digits in hex of 64 bits.
-const HEX_DIGITS: usize = 16;
-
-pub(crate) fn say(text: &[u8]) {
-    io::write_all(STDOUT_FILENO, text);
+// What cannot be written is left out, and the play goes on.
+pub(crate) fn say(rt: &impl Print, text: &[u8]) {
+    rt.write_all(text).is_ok();
 }
 
-pub(crate) fn say_number(number: u64) {
-    io::print_decimal(STDOUT_FILENO, number);
+pub(crate) fn say_number(rt: &impl Print, number: u64) {
+    rt.print(number).is_ok();
 }
 
-pub(crate) fn say_score(score: i64) {
+pub(crate) fn say_score(rt: &impl Print, score: i64) {
     if score < 0 {
-        say(b"-");
+        say(rt, b"-");
     }
-    say_number(magnitude(score));
+    say_number(rt, magnitude(score));
 }
 
 // A refusal by its number in the documents.
-pub(crate) fn say_refused(number: u32) {
-    say(b"refused ");
-    say_number(number as u64);
-    say(b"\n");
+pub(crate) fn say_refused(rt: &impl Print, number: u32) {
+    say(rt, b"refused ");
+    say_number(rt, number as u64);
+    say(rt, b"\n");
 }
 
-pub(crate) fn say_refusal(why: Refusal) {
-    say_refused(number_of(why));
+pub(crate) fn say_refusal(rt: &impl Print, why: Refusal) {
+    say_refused(rt, number_of(why));
 }
 
-pub(crate) fn say_verdict(verdict: Verdict) {
+pub(crate) fn say_verdict(rt: &impl Print, verdict: Verdict) {
     match verdict {
-        Verdict::Done => say(b"done\n"),
-        Verdict::Refused(why) => say_refusal(why),
+        Verdict::Done => say(rt, b"done\n"),
+        Verdict::Refused(why) => say_refusal(rt, why),
     }
 }
 
-pub(crate) fn say_room(room: RoomLeft) {
+pub(crate) fn say_room(rt: &impl Print, room: RoomLeft) {
     match room {
         RoomLeft::Contexts(left) => {
-            say(b"room ");
-            say_number(left as u64);
-            say(b"\n");
+            say(rt, b"room ");
+            say_number(rt, left as u64);
+            say(rt, b"\n");
         }
-        RoomLeft::Refused(why) => say_refusal(why),
+        RoomLeft::Refused(why) => say_refusal(rt, why),
     }
 }
 
-pub(crate) fn say_fed(fed: Fed) {
-    say(b"fed ");
-    say_number(fed.accepted as u64);
+pub(crate) fn say_fed(rt: &impl Print, fed: Fed) {
+    say(rt, b"fed ");
+    say_number(rt, fed.accepted as u64);
     let ending = fed.ending;
     match ending {
-        Ending::Whole => say(b" whole\n"),
+        Ending::Whole => say(rt, b" whole\n"),
         Ending::Refused(why) => {
-            say(b" ");
-            say_refusal(why);
+            say(rt, b" ");
+            say_refusal(rt, why);
         }
     }
 }
 
-pub(crate) fn say_chart(answer: ChartAnswer) {
+pub(crate) fn say_chart(rt: &impl Print, answer: ChartAnswer) {
     match answer {
-        ChartAnswer::Answered(chart) => say_charted(chart),
-        ChartAnswer::Refused(why) => say_refusal(why),
+        ChartAnswer::Answered(chart) => say_charted(rt, chart),
+        ChartAnswer::Refused(why) => say_refusal(rt, why),
     }
 }
 
-fn say_charted(chart: Chart) {
+fn say_charted(rt: &impl Print, chart: Chart) {
     match chart {
-        Chart::Neither => say(b"chart neither"),
+        Chart::Neither => say(rt, b"chart neither"),
         Chart::First(share) => {
-            say(b"chart first");
-            say_bits(share);
+            say(rt, b"chart first");
+            say_bits(rt, share);
         }
         Chart::Second(share) => {
-            say(b"chart second");
-            say_bits(share);
+            say(rt, b"chart second");
+            say_bits(rt, share);
         }
         Chart::Both(point) => {
-            say(b"chart both");
-            say_bits(point.first);
-            say_bits(point.second);
-            say_bits(point.gap);
+            say(rt, b"chart both");
+            say_bits(rt, point.first);
+            say_bits(rt, point.second);
+            say_bits(rt, point.gap);
         }
     }
-    say(b"\n");
+    say(rt, b"\n");
 }
 
 // A blank and the 64 bits of a float. What is no number has no bits to show, and no answer holds it.
-fn say_bits(x: f64) {
+fn say_bits(rt: &impl Print, x: f64) {
     if x == x {
-        say(b" ");
-        io::print_hex(STDOUT_FILENO, f64::to_bits(x), HEX_DIGITS);
+        say(rt, b" ");
+        let bits = f64::to_bits(x);
+        print!(rt; "{bits:016x}").is_ok();
     }
 }

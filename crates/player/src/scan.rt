@@ -1,5 +1,5 @@
 // The numbers of a script: runs of decimal digits. Every other byte only parts them.
-ghost use Rattle.io.specs.Counts.{IsPrefixLen};
+ghost use Rattle.std.specs.Prelude.{◌≡◌, ◌≤◌, length, take};
 
 // A number that was read, and the place after it.
 #[derive(Clone, Copy)]
@@ -82,7 +82,8 @@ fn symbol_of(number: u32) -> u8 {
 
 // As many numbers as are wanted, or all there are.
 pub(crate) fn within(wanted: usize, numbers: &[u32]) -> usize
-    ensures { IsPrefixLen result numbers.now }
+    ensures at_most { result ≤ length numbers.now }
+    ensures taken { result ≡ length (take result numbers.now) }
 {
     if numbers.len() < wanted {
         return numbers.len();

@@ -14,12 +14,13 @@ const BLANK: u32 = 4294967295;
 const SHEET_NUMBERS: usize = 5632;
 
 // Reads a report's numbers, and has a blank sheet for it.
-pub(crate) fn play_report(script: &[u8], at: usize, store: &[u32]) -> usize {
+pub(crate) fn play_report(rt: &impl Print, script: &[u8], at: usize, store: &[u32]) -> usize {
     let desk = number_at(script, at);
     let length = number_at(script, desk.next);
     let place = number_at(script, length.next);
     let mut sheet = [BLANK; SHEET_NUMBERS];
     report_on_part(
+        rt,
         store,
         desk.value,
         &mut sheet,
@@ -30,31 +31,38 @@ pub(crate) fn play_report(script: &[u8], at: usize, store: &[u32]) -> usize {
 }
 
 // Lends the report the part of the sheet that the call names.
-fn report_on_part(store: &[u32], desk: u32, sheet: &mut [u32], length: usize, place: u32) {
+fn report_on_part(
+    rt: &impl Print,
+    store: &[u32],
+    desk: u32,
+    sheet: &mut [u32],
+    length: usize,
+    place: u32,
+) {
     let many = within(length, sheet);
-    report_on(store, desk, &mut sheet[..many], place);
+    report_on(rt, store, desk, &mut sheet[..many], place);
 }
 
-fn report_on(store: &[u32], desk: u32, sheet: &mut [u32], place: u32) {
+fn report_on(rt: &impl Print, store: &[u32], desk: u32, sheet: &mut [u32], place: u32) {
     match report(store, desk, sheet, place) {
         ReportAnswer::Rows(rows, score) => {
-            say(b"report ");
-            say_number(rows as u64);
-            say(b" ");
-            say_score(score);
-            say(b"\n");
-            say_rows(sheet, place as usize, rows as usize);
-            say_outside(sheet, place as usize, rows as usize);
+            say(rt, b"report ");
+            say_number(rt, rows as u64);
+            say(rt, b" ");
+            say_score(rt, score);
+            say(rt, b"\n");
+            say_rows(rt, sheet, place as usize, rows as usize);
+            say_outside(rt, sheet, place as usize, rows as usize);
         }
         ReportAnswer::Refused(why) => {
-            say_refusal(why);
-            say_outside(sheet, 0, 0);
+            say_refusal(rt, why);
+            say_outside(rt, sheet, 0, 0);
         }
     }
 }
 
 // A line for each row, from a row's place on, as far as the sheet has whole rows.
-fn say_rows(sheet: &[u32], place: usize, rows: usize) {
+fn say_rows(rt: &impl Print, sheet: &[u32], place: usize, rows: usize) {
     let mut k: usize = 0;
     let whole = sheet.len() / ROW_WIDTH;
     while k < rows {
@@ -65,35 +73,35 @@ fn say_rows(sheet: &[u32], place: usize, rows: usize) {
             return;
         }
         let at = (place + k) * ROW_WIDTH;
-        say_row(&sheet[at..at + ROW_WIDTH]);
+        say_row(rt, &sheet[at..at + ROW_WIDTH]);
         k += 1;
     }
 }
 
 // The numbers of a row, parted by blanks.
-fn say_row(row: &[u32]) {
+fn say_row(rt: &impl Print, row: &[u32]) {
     let mut i: usize = 0;
     while i < row.len() {
         if 0 < i {
-            say(b" ");
+            say(rt, b" ");
         }
-        say_wide(row[i]);
+        say_wide(rt, row[i]);
         i += 1;
     }
-    say(b"\n");
+    say(rt, b"\n");
 }
 
-fn say_wide(number: u32) {
-    say_number(number as u64);
+fn say_wide(rt: &impl Print, number: u32) {
+    say_number(rt, number as u64);
 }
 
 // A line where numbers outside the rows have changed; it must never be seen.
-fn say_outside(sheet: &[u32], place: usize, rows: usize) {
+fn say_outside(rt: &impl Print, sheet: &[u32], place: usize, rows: usize) {
     let changed = changed_outside(sheet, place, rows);
     if 0 < changed {
-        say(b"outside ");
-        say_number(changed as u64);
-        say(b"\n");
+        say(rt, b"outside ");
+        say_number(rt, changed as u64);
+        say(rt, b"\n");
     }
 }
 

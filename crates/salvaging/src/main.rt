@@ -4,27 +4,28 @@
 
 ghost use Rattle.std.specs.Prelude.{◌≤◌};
 
-use libc::{STDERR_FILENO, STDIN_FILENO, STDOUT_FILENO};
 use printing::TEXT_BYTES;
 use salvage_input::MOST_TOLD;
 use sitting_file::INPUT_BYTES;
+use std::io::Read;
+use streams::{read_full, write_full};
 
 // How many bytes are read at a time to be counted.
 const PIECE: u64 = 65536;
 
 // How many bytes the next reading finds: a piece, or fewer where the input ends.
-fn count_piece() -> u64
+fn count_piece<R: Read>(input: &mut R) -> u64
     ensures { result ≤ 65536 }
 {
-    let mut space = io::large_buffer();
-    io::read_full(STDIN_FILENO, &mut space) as u64
+    let mut space = [0u8; 65536];
+    read_full(input, &mut space) as u64
 }
 
-// How many bytes of standard input follow those that filled the buffer. A proved loop has to end: this one does where more would not be told.
-fn count_beyond() -> u64 {
+// How many bytes of an input follow those that filled the buffer. A proved loop has to end: this one does where more would not be told.
+fn count_beyond<R: Read>(input: &mut R) -> u64 {
     let mut counted: u64 = 0;
     while counted < MOST_TOLD {
-        let piece = count_piece();
+        let piece = count_piece(input);
         counted += piece;
         if piece < PIECE {
             break;
@@ -35,22 +36,23 @@ fn count_beyond() -> u64 {
 
 // Reads, counts, lends and writes. Of the bytes read and the count, what is put out is what all of standard input asks for (salvage_input/specs/Filter
 // `FiltersInput`); that these are the input's is not proved, as nothing is of reading.
-fn main() {
+fn main(rt: HostRuntime) {
+    let mut stdin = rt.stdin();
     let mut input = [0u8; INPUT_BYTES];
-    let many = io::read_full(STDIN_FILENO, &mut input);
+    let many = read_full(&mut stdin, &mut input);
     let beyond = if many < INPUT_BYTES {
         0
     } else {
-        count_beyond()
+        count_beyond(&mut stdin)
     };
     let mut file = [0u8; INPUT_BYTES];
     let mut line = [0u8; TEXT_BYTES];
     let ends = salvage_input::salvage_input(&input, many, beyond, &mut file, &mut line);
     let file_end = ends.file;
     let line_end = ends.line;
-    if io::write_all(STDOUT_FILENO, &file[..file_end]) {
-        io::write_all(STDERR_FILENO, &line[..line_end]);
+    if write_full(&mut rt.stdout(), &file[..file_end]) {
+        write_full(&mut rt.stderr(), &line[..line_end]);
     } else {
-        io::write_all(STDERR_FILENO, b"the saved file could not be written\n");
+        write_full(&mut rt.stderr(), b"the saved file could not be written\n");
     }
 }

@@ -35,8 +35,8 @@ open-here c =
 -- past the fifth only the code is still to be read
 asked_here : (c : Else-field_at-length) → let x = c.args in Asked x.store.now x.desk x.length x.symbol
 asked_here c = record {
-  sound = sound-here c.before.before.before.before.before.before.before;
-  at_open = open-here c.before.before.before.before;
+  sound = sym c.sound.ensures ∙ c.if-not-sound.false;
+  at_open = record { desk = omega arith; opened = eq→eqb (field c.args.store.now c.args.desk 0) 1 (sym c.field_at.ensures ∙ c.if-field_at-ne1.false) };
   symbol = rw c.field_at-symbols.ensures at c.if-symbols-symbol.false;
   short = rw c.field_at-2.ensures at c.if-field_at-length.false;
 }
@@ -84,21 +84,21 @@ returns-then-field_at-length c =
 pub key_of-requires : goal.key_of-requires
 key_of-requires c =
     let x = c.args in
-    let g = asked_here c in
+    let g = asked_here (goal.at.key_of-requires c).Else-field_at-length in
     (g.at_open.desk, omega (arith, g.short, (sound_stands x.store.now g.sound).depth x.desk g.at_open))
 
 pub chart_under-requires : goal.chart_under-requires
 chart_under-requires c =
     let x = c.args in
-    key_readable x.store.now x.desk x.length x.code x.symbol (asked_here (goal.at.chart_under-requires c).Else-field_at-length) c.key.given.0.0 (named_here (goal.at.chart_under-requires c).After-key_of ∙ c.key.given.1)
+    key_readable x.store.now x.desk x.length x.code x.symbol (asked_here (goal.at.chart_under-requires c).Else-field_at-length) c.in-Key.key (named_here (goal.at.chart_under-requires c).After-key_of ∙ c.in-Key.is)
 
 pub returns-in-Key : goal.returns-in-Key
 returns-in-Key c =
     let x = c.args in
-    asks_chart x.store.now x.desk x.length x.code x.symbol (asked_here (goal.at.returns-in-Key c).Else-field_at-length) c.key.given.0.0 (named_here (goal.at.returns-in-Key c).After-key_of ∙ c.key.given.1)
+    asks_chart x.store.now x.desk x.length x.code x.symbol (asked_here (goal.at.returns-in-Key c).Else-field_at-length) c.in-Key.key (named_here (goal.at.returns-in-Key c).After-key_of ∙ c.in-Key.is)
     c.chart_under.result c.chart_under.ensures
 
 pub returns-in-NoContext : goal.returns-in-NoContext
 returns-in-NoContext c =
     let x = c.args in
-    asks_code x.store.now x.desk x.length x.code x.symbol (asked_here (goal.at.returns-in-NoContext c).Else-field_at-length) (named_here (goal.at.returns-in-NoContext c).After-key_of ∙ c.enum_told.given.1)
+    asks_code x.store.now x.desk x.length x.code x.symbol (asked_here (goal.at.returns-in-NoContext c).Else-field_at-length) (named_here (goal.at.returns-in-NoContext c).After-key_of ∙ c.in-NoContext.is)

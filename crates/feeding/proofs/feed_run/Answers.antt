@@ -17,9 +17,6 @@ loop-done-init c =
     let x = c.args in
     ran_start x.store.now x.desk x.sample x.symbols.now c.requires
 
-pub overflow_cast-symbols : goal.overflow_cast-symbols
-overflow_cast-symbols c = omega (arith, c.shared_slice_known-in-loop-done-1.given c.loop-done.done)
-
 pub feed_sound-requires : goal.feed_sound-requires
 feed_sound-requires c = c.loop-done.invariant.sound
 
@@ -28,7 +25,7 @@ loop-done-preserved c =
     let x = c.args in
     let at = c.loop-done in
     let fed = c.feed_sound in
-    let told : fed.result ≡ Done = c.enum_told.given.1 in
+    let told : fed.result ≡ Done = c.in-Done.is in
     ran_on x.store.now x.desk x.sample x.symbols.now at.store at.done at.invariant fed.new.store (omega arith) (subst (λ (v : Verdict). Moves at.store (feeding x.desk x.sample (get_or x.symbols.now at.done 0)) (outcome_of v) fed.new.store) told fed.ensures)
 
 pub shape_of-store-in-Refused : goal.shape_of-store-in-Refused
@@ -39,8 +36,8 @@ returns-in-Refused c =
     let x = c.args in
     let at = c.loop-done in
     let fed = c.feed_sound in
-    let why = c.why.given.0.0 in
-    let told : fed.result ≡ Refused why = c.why.given.1 in
+    let why = c.in-Refused.why in
+    let told : fed.result ≡ Refused why = c.in-Refused.is in
     ran_refused x.store.now x.desk x.sample x.symbols.now at.store at.done at.invariant fed.new.store (refusal_number why) c.requires (omega arith)
     (subst (λ (v : Verdict). Moves at.store (feeding x.desk x.sample (get_or x.symbols.now at.done 0)) (outcome_of v) fed.new.store) told fed.ensures)
 

@@ -1,0 +1,38 @@
+// Reading and writing as the programs do it: a reading or a writing that fails ends there, and the program goes on.
+#![tactic(auto)]
+
+ghost use Rattle.std.specs.Prelude.{◌≡◌, ◌≤◌, length, take};
+
+use std::io::{Read, Write};
+
+// Reads until the buffer is full, the input ends or a reading fails, and answers how many bytes it put at the buffer's start. For an empty buffer
+// nothing is read.
+pub fn read_full<R: Read>(from: &mut R, buffer: &mut [u8]) -> usize
+    ensures within { result ≤ length buffer.new }
+    ensures taken { result ≡ length (take result buffer.new) }
+{
+    let mut done = 0;
+    while done < buffer.len() {
+        let found = read_some(from, &mut buffer[done..]);
+        if found == 0 {
+            break;
+        }
+        done += found;
+    }
+    done
+}
+
+// One reading: how many bytes it found, 0 where it failed.
+fn read_some<R: Read>(from: &mut R, buffer: &mut [u8]) -> usize
+    ensures { result ≤ length buffer.new }
+{
+    match from.read(buffer) {
+        Ok(found) => found,
+        Err(_) => 0,
+    }
+}
+
+// Writes a text, and answers whether all of it was written.
+pub fn write_full<W: Write>(to: &mut W, text: &[u8]) -> bool {
+    to.write_all(text).is_ok()
+}
