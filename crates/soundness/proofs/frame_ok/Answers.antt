@@ -18,10 +18,10 @@ none true false = refl
 none false b = refl
 
 pub overflow_cast-room : goal.overflow_cast-room
-overflow_cast-room c = omega (arith, c.shared_slice_known-1.given 0)
+overflow_cast-room c = omega (arith, c.type_inv.store 0)
 
 pub overflow_cast-result : goal.overflow_cast-result
-overflow_cast-result c = omega (arith, c.shared_slice_known-then-room-len-1.given 1)
+overflow_cast-result c = omega (arith, c.type_inv.store 1)
 
 pub returns-then-room-len : goal.returns-then-room-len
 unfolding frame_ok

@@ -27,13 +27,13 @@ pub bounds-store-1 : goal.bounds-store-1
 bounds-store-1 c = omega (arith, (known (goal.at.bounds-store-1 c).Then-frame_ok).long)
 
 pub overflow_cast-many : goal.overflow_cast-many
-overflow_cast-many c = omega (arith, c.shared_slice_known-then-frame_ok-1.given 1)
+overflow_cast-many c = omega (arith, c.type_inv.store 1)
 
 pub bounds-store-0 : goal.bounds-store-0
 bounds-store-0 c = omega (arith, (known (goal.at.bounds-store-0 c).Then-frame_ok).long)
 
 pub overflow_cast-room : goal.overflow_cast-room
-overflow_cast-room c = omega (arith, c.shared_slice_known-then-frame_ok-2-1.given 0)
+overflow_cast-room c = omega (arith, c.type_inv.store 0)
 
 pub slice_bounds-body-count : goal.slice_bounds-body-count
 slice_bounds-body-count c = omega (arith, (known (goal.at.slice_bounds-body-count c).Then-frame_ok).long)

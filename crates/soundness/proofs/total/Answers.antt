@@ -10,16 +10,16 @@ pub loop-i-init : goal.loop-i-init
 loop-i-init c = summing_start _ _ c.requires
 
 pub overflow_cast-seen : goal.overflow_cast-seen
-overflow_cast-seen c = omega (arith, c.shared_slice_known-1.given (c.args.from + c.loop-i.i))
+overflow_cast-seen c = omega (arith, c.type_inv.held (c.args.from + c.loop-i.i))
 
 pub overflow_add-seen-in-loop-i : goal.overflow_add-seen-in-loop-i
-overflow_add-seen-in-loop-i c = omega (arith, c.shared_slice_known-1.given (c.args.from + c.loop-i.i))
+overflow_add-seen-in-loop-i c = omega (arith, c.type_inv.held (c.args.from + c.loop-i.i))
 
 pub loop-i-preserved : goal.loop-i-preserved
 loop-i-preserved c =
     let args = c.args in
     let loop = c.loop-i in
-    summing_more args.held.now args.from loop.seen loop.i loop.invariant (omega arith) (omega (arith, c.shared_slice_known-1.given (args.from + loop.i)))
+    summing_more args.held.now args.from loop.seen loop.i loop.invariant (omega arith) (omega (arith, c.type_inv.held (args.from + loop.i)))
 
 pub returns : goal.returns
 returns c =
