@@ -18,6 +18,7 @@ use Rattle.demands.proofs.Demand3.{demand_3}
 -- answers are no refusals
 none_refused : (xs : List (Done rules)) (n : ℕ) → Memᴰ (refused n) (answers rules xs) → ⊥
 unfolding answers
+none_refused [] n m = elim m [ ]
 none_refused (x ∷ xs) n (Memᴰ.head e) = let z : ◌≡◌ {A = ℕ} 0 1 = cc in omega arith
 none_refused (x ∷ xs) n (Memᴰ.tail m) = none_refused xs n m
 

@@ -1,10 +1,8 @@
 -- At weight 4 a report is the one of the doubled score, with four times its score: of every joint estimate, of every run and of the program. Assumes nothing.
-use Prim.Native.Nat.{ℕ, ◌<◌}
+use Prim.Native.Nat.{ℕ}
 use native.Mathlib.Omega.{arith}
 use mathlib.Core.Path.{◌≡◌, refl, sym, subst, ◌∙◌}
 use mathlib.Core.List.{List}
-use Rattle.numbers.specs.Limits.{plain_weight}
-use Rattle.contexts.specs.Sitting.{Sitting}
 use Rattle.estimate.specs.Trees.{Triple}
 use Rattle.estimate.specs.Recursion.{estimate_of}
 use Rattle.estimate.specs.Doubled.{AsDoubled}
@@ -16,7 +14,7 @@ use Rattle.rules.specs.Rules.{reporting, reported, rules}
 use Rattle.rules.specs.Strings.{sitting_for}
 use Rattle.sitting_file.proofs.AcceptedFile.{accepted_holds}
 use Rattle.judgement.specs.Judgement.{file_sitting}
-use Rattle.demands.specs.Weight.{AsBefore, PlainEstimate, PlainAt, PlainReports, PlainProgram}
+use Rattle.demands.specs.Weight.{PlainEstimate, PlainAt, PlainReports, PlainProgram}
 use Rattle.demands.proofs.Demand2.{own}
 use Rattle.demands.proofs.OwnStrings.{up_to, AnsweredBy, next_answer}
 

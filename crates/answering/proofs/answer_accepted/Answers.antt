@@ -9,8 +9,8 @@ seat-requires c =
 
 pub returns-in-Refused : goal.returns-in-Refused
 returns-in-Refused c =
-    feed_refused _ _ _ c.args.shape c.requires.0 _ _ _ _ c.why.given.1 c.number_of_lem.ensures c.feed_file.ensures
+    feed_refused _ _ _ c.args.shape c.requires.0 _ _ _ _ c.in-Refused.is c.number_of.ensures c.feed_file.ensures
 
 pub returns-in-Whole : goal.returns-in-Whole
 returns-in-Whole c =
-    report_told _ _ _ c.args.shape c.requires.0 _ c.report.result _ _ _ c.enum_told.given.1 c.told.ensures c.feed_file.ensures c.report.ensures
+    report_told _ _ _ c.args.shape c.requires.0 _ c.report.result _ _ _ c.in-Whole.is c.told.ensures c.feed_file.ensures c.report.ensures

@@ -5,8 +5,8 @@ use Rattle.answering.proofs.feed_both.Goals as goal
 
 pub returns-in-Refused : goal.returns-in-Refused
 returns-in-Refused c =
-    first_stops _ _ _ _ c.requires _ _ _ c.ending.given.1 c.feed_all-one.ensures
+    first_stops _ _ _ _ c.requires _ _ _ c.in-Refused.is c.feed_all-one.ensures
 
 pub returns-in-Whole : goal.returns-in-Whole
 returns-in-Whole c =
-    second_ends _ _ _ _ c.requires _ _ _ _ _ c.enum_told.given.1 c.feed_all-one.ensures c.feed_all-two.ensures
+    second_ends _ _ _ _ c.requires _ _ _ _ _ c.in-Whole.is c.feed_all-one.ensures c.feed_all-two.ensures

@@ -7,8 +7,8 @@ use Rattle.answering.proofs.sitting_answer.Goals as goal
 
 pub answer_accepted-requires : goal.answer_accepted-requires
 answer_accepted-requires c =
-    (sym c.read.ensures ∙ c.shape.given.1, omega (arith, c.answer_accepted-arg-1.given.0.1))
+    (sym c.read.ensures ∙ c.in-Accepted.is, omega arith)
 
 pub returns-in-Refused : goal.returns-in-Refused
 returns-in-Refused c =
-    reader_refuses _ _ _ _ (sym c.read.ensures ∙ c.why.given.1) _ c.refusal_number.ensures
+    reader_refuses _ _ _ _ (sym c.read.ensures ∙ c.in-Refused.is) _ c.refusal_number.ensures

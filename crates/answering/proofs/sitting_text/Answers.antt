@@ -5,8 +5,8 @@ use Rattle.answering.proofs.sitting_text.Goals as goal
 
 pub put_answer-requires : goal.put_answer-requires
 put_answer-requires c =
-    can_print _ _ _ _ _ _ c.sitting_answer-answer.ensures c.put_answer-arg-3-1.given.0
+    can_print _ _ _ _ _ _ c.sitting_answer-answer.ensures (search rules)
 
 pub returns : goal.returns
 returns c =
-    answer_prints _ _ _ _ _ _ c.sitting_answer-answer.ensures _ _ _ c.put_answer-arg-3-1.given.0 c.put_answer.ensures
+    answer_prints _ _ _ _ _ _ c.sitting_answer-answer.ensures _ _ _ (search rules) c.put_answer.ensures

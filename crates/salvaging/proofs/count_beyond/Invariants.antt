@@ -1,11 +1,10 @@
 -- `salvaging::count_beyond` is safe and ends: each turn but the last counts a piece. Assumes nothing.
 use Prim.Native.Nat.{◌-◌}
-use native.Mathlib.Omega.{arith}
 use Rattle.salvage_input.specs.Filter.{most_told}
 use Rattle.salvaging.proofs.count_beyond.Given as goal
 
 abbrev pub invariant-loop-counted : goal.invariant-loop-counted
-invariant-loop-counted l = Unit {0}
+invariant-loop-counted g l = Unit {0}
 
 abbrev pub decreases-loop-counted : goal.decreases-loop-counted
-decreases-loop-counted l = most_told - l.counted
+decreases-loop-counted g l = most_told - l.counted

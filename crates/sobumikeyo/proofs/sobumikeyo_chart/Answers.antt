@@ -6,20 +6,20 @@ use Rattle.sobumikeyo.proofs.sobumikeyo_chart.Goals as goal
 
 pub returns-in-Refused : goal.returns-in-Refused
 returns-in-Refused c =
-    chart_refused c.chart.result c.chart.ensures c.why.given.1 c.number_of_lem.ensures
+    chart_refused c.chart.result c.chart.ensures c.in-Refused.is c.number_of.ensures
 
 pub returns-in-Neither : goal.returns-in-Neither
 returns-in-Neither c =
-    chart_told c.chart.result c.chart.ensures Neither c.chart.given.1 c.enum_told.given.1
+    chart_told c.chart.result c.chart.ensures Neither c.in-Answered.is c.in-Neither.is
 
 pub returns-in-First : goal.returns-in-First
 returns-in-First c =
-    chart_told c.chart.result c.chart.ensures (First _) c.chart.given.1 c.chart-in-Answered-1.given.1
+    chart_told c.chart.result c.chart.ensures (First _) c.in-Answered.is c.in-First.is
 
 pub returns-in-Second : goal.returns-in-Second
 returns-in-Second c =
-    chart_told c.chart.result c.chart.ensures (Second _) c.chart.given.1 c.chart-in-Answered-2-1.given.1
+    chart_told c.chart.result c.chart.ensures (Second _) c.in-Answered.is c.in-Second.is
 
 pub returns-in-Both : goal.returns-in-Both
 returns-in-Both c =
-    chart_told c.chart.result c.chart.ensures (Both _) c.chart.given.1 c.chart-in-Answered-3-1.given.1
+    chart_told c.chart.result c.chart.ensures (Both _) c.in-Answered.is c.in-Both.is

@@ -5,8 +5,8 @@ use Rattle.sobumikeyo.proofs.sobumikeyo_read.Goals as goal
 
 pub returns-in-Refused : goal.returns-in-Refused
 returns-in-Refused c =
-    read_refused c.read.result c.read.ensures c.why.given.1 c.refusal_number.ensures
+    read_refused c.read.result c.read.ensures c.in-Refused.is c.refusal_number.ensures
 
 pub returns-in-Accepted : goal.returns-in-Accepted
 returns-in-Accepted c =
-    read_told c.read.result c.read.ensures c.s.given.1
+    read_told c.read.result c.read.ensures c.in-Accepted.is

@@ -5,8 +5,8 @@ use Rattle.sobumikeyo.proofs.sobumikeyo_room.Goals as goal
 
 pub returns-in-Refused : goal.returns-in-Refused
 returns-in-Refused c =
-    room_refused c.room_left.result c.room_left.ensures c.why.given.1 c.number_of_lem.ensures
+    room_refused c.room_left.result c.room_left.ensures c.in-Refused.is c.number_of.ensures
 
 pub returns-in-Contexts : goal.returns-in-Contexts
 returns-in-Contexts c =
-    room_told c.room_left.result c.room_left.ensures c.n.given.1
+    room_told c.room_left.result c.room_left.ensures c.in-Contexts.is

@@ -5,8 +5,8 @@ use Rattle.sobumikeyo.proofs.sobumikeyo_salvage.Goals as goal
 
 pub returns-in-Refused : goal.returns-in-Refused
 returns-in-Refused c =
-    salvage_refused c.salvage.result c.salvage.ensures c.why.given.1 c.refusal_number.ensures
+    salvage_refused c.salvage.result c.salvage.ensures c.in-Refused.is c.refusal_number.ensures
 
 pub returns-in-File : goal.returns-in-File
 returns-in-File c =
-    salvage_told c.salvage.result c.salvage.ensures c.length.given.1
+    salvage_told c.salvage.result c.salvage.ensures c.in-File.is

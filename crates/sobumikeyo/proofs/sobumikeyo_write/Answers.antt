@@ -5,8 +5,8 @@ use Rattle.sobumikeyo.proofs.sobumikeyo_write.Goals as goal
 
 pub returns-in-Refused : goal.returns-in-Refused
 returns-in-Refused c =
-    write_refused c.write.result c.write.ensures c.why.given.1 c.refusal_number.ensures
+    write_refused c.write.result c.write.ensures c.in-Refused.is c.refusal_number.ensures
 
 pub returns-in-Length : goal.returns-in-Length
 returns-in-Length c =
-    write_told c.write.result c.write.ensures c.size.given.1
+    write_told c.write.result c.write.ensures c.in-Length.is

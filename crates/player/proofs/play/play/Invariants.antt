@@ -5,7 +5,7 @@ use lib.ListN.{length}
 use Rattle.player.proofs.play.play.Given as goal
 
 abbrev pub invariant-loop-at : goal.invariant-loop-at
-invariant-loop-at l = length l.store ≡ length l.initial.store
+invariant-loop-at g l = length l.store ≡ length l.initial.store
 
 abbrev pub decreases-loop-at : goal.decreases-loop-at
-decreases-loop-at l = length l.script - l.at
+decreases-loop-at g l = length l.script - l.at
