@@ -1,10 +1,10 @@
 -- All losses multiplied by one number above 0 leave the estimate as it is, and multiply what any triple loses. Assumes nothing.
-use Prim.Native.Nat.{ℕ, zero, suc, ◌+◌, ◌*◌, min, ◌<◌}
+use Prim.Native.Nat.{ℕ, zero, suc, ◌*◌, min, ◌<◌}
 use native.Mathlib.Nat.{mul-le-mul_left}
 use native.Mathlib.Omega.{arith}
 use mathlib.Core.Path.{◌≡◌, refl, ap, ap₂, fun_ext, ◌∙◌}
 use mathlib.Core.Bool.{Bool, true, false, cond}
-use mathlib.Core.List.{List, [], ◌∷◌}
+use mathlib.Core.List.{List, []}
 use lib.Dec.{leb}
 use borrow.Author.Tests.{le-leb, lt-leb}
 use Rattle.numbers.specs.Sum.{sum}
@@ -15,7 +15,7 @@ use Rattle.contexts.specs.Strings.{under, total}
 use Rattle.contexts.specs.Sitting.{first, second}
 use Rattle.estimate.specs.Trees.{Contexts, shared, own, Triple, below, separate_trees}
 use Rattle.estimate.specs.Recursion.{Losses, best, separate, joint, split, tree, split_both, estimate}
-use Rattle.estimate.proofs.Loss.{set_loss, loss_at, loss}
+use Rattle.estimate.proofs.Loss.{loss_at, loss}
 
 -- the losses, times c
 abbrev pub scaled : ℕ → Losses → Losses

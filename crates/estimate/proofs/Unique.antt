@@ -1,10 +1,9 @@
 -- The estimate is the only best triple that keeps the tie rules of document 01. Assumes nothing.
-use Prim.Native.Nat.{ℕ, suc, ◌+◌, ◌≤◌, ◌<◌}
+use Prim.Native.Nat.{ℕ, suc, ◌≤◌, ◌<◌}
 use native.Mathlib.Omega.{arith}
 use mathlib.Core.Path.{◌≡◌, sym, ap, subst, fun_ext}
 use mathlib.Core.Logic.{⊎_elim}
 use mathlib.Core.List.{List, [], ◌∷◌, ◌++◌}
-use lib.Signed.{◌≤ℤ◌}
 use Rattle.numbers.proofs.Tests.{is_false, or_left, or_right, or_rest}
 use Rattle.numbers.proofs.Sums.{sum_tight}
 use Rattle.contexts.specs.Context.{is_context}
@@ -13,7 +12,7 @@ use Rattle.contexts.specs.Sitting.{Sample, first, second, Sitting}
 use Rattle.contexts.proofs.Strings.{newest_below, context_cons}
 use Rattle.contexts.proofs.Totalling.{total_root}
 use Rattle.estimate.specs.Trees.{In, Kind, shared, own, Triple, Admissible, shared_leaf, separate_trees, below}
-use Rattle.estimate.specs.Score.{Worths, worths, score, Best}
+use Rattle.estimate.specs.Score.{Worths, worths, Best}
 use Rattle.estimate.specs.Ties.{NothingShared, JointRule, SplitTo, GoesTo, KeepsTies}
 use Rattle.estimate.specs.Recursion.{Losses, losses, best, separate, joint, tree, split_both, estimate, estimate_of}
 use Rattle.estimate.proofs.Loss.{set_loss, loss_at, loss, loss_sets, minus_all, worths_losses, more_score, less_loss}

@@ -7,7 +7,7 @@ use native.Mathlib.Nat.{add-zero, add-suc}
 use native.Mathlib.Omega.{arith}
 use lib.Dec.{T}
 use lib.ListN.{length, take, drop, length-append, length-map, take-append-drop}
-use Rattle.numbers.proofs.Orders.{Leb, le, gt, leb_view, same}
+use Rattle.numbers.proofs.Orders.{Leb, le, gt, leb_view}
 use Rattle.contexts.specs.Keys.{key_of}
 use Rattle.contexts.proofs.KeyOrder.{Within}
 use Rattle.contexts.specs.Sitting.{Sample, first}

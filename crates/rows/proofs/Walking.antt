@@ -1,5 +1,5 @@
 -- The walk from the root, by strings, gives the members of the estimate; below an unseen string it does not go. Assumes nothing.
-use Prim.Native.Nat.{ℕ, zero, suc, ◌+◌, min, ◌<◌}
+use Prim.Native.Nat.{ℕ, zero, suc, min, ◌<◌}
 use mathlib.Core.Path.{◌≡◌, refl, sym, ap, ap₂, fun_ext, ◌∙◌}
 use mathlib.Core.Bool.{Bool, true, false, cond, not, ◌&&◌, and-true, and_assoc}
 use mathlib.Core.List.{List, [], ◌∷◌, ◌++◌, map}

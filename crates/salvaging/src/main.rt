@@ -35,7 +35,7 @@ fn count_beyond<R: Read>(input: &mut R) -> u64 {
 }
 
 // Reads, counts, lends and writes. Of the bytes read and the count, what is put out is what all of standard input asks for (salvage_input/specs/Filter
-// `FiltersInput`); that these are the input's is not proved, as nothing is of reading.
+// `FiltersInput`); that these are the input's is not proved, as no contract knows what the system reads.
 fn main(rt: HostRuntime) {
     let mut stdin = rt.stdin();
     let mut input = [0u8; INPUT_BYTES];

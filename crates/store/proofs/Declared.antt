@@ -3,7 +3,7 @@ use mathlib.Core.Path.{◌≡◌, sym, subst}
 use mathlib.Core.List.{List, []}
 use Prim.Native.Nat.{ℕ, ◌%◌, ◌≤◌, ◌<◌}
 use native.Mathlib.Omega.{arith}
-use lib.Dec.{T, ltb, leb, eqb, ltb→lt, lt→ltb, le→leb, eqb→eq}
+use lib.Dec.{T, ltb, leb, ltb→lt, lt→ltb, le→leb, eqb→eq}
 use lib.ListN.{length, get_or}
 use Rattle.numbers.specs.Limits.{deepest, desks}
 use Rattle.numbers.specs.Every.{all}

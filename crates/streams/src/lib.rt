@@ -1,7 +1,8 @@
 // Reading and writing as the programs do it: a reading or a writing that fails ends there, and the program goes on.
 #![tactic(auto)]
 
-ghost use Rattle.std.specs.Prelude.{◌≡◌, ◌≤◌, length, take};
+ghost use Rattle.std.specs.Prelude.{◌≡◌, ◌≤◌, length, take, true};
+ghost use Rattle.std.specs.Io.KnownBytes.{Consumes, Appends};
 
 use std::io::{Read, Write};
 
@@ -10,6 +11,7 @@ use std::io::{Read, Write};
 pub fn read_full<R: Read>(from: &mut R, buffer: &mut [u8]) -> usize
     ensures within { result ≤ length buffer.new }
     ensures taken { result ≡ length (take result buffer.new) }
+    ensures bytes { Consumes (R.remaining from.old) (R.remaining from.new) (take result buffer.new) }
 {
     let mut done = 0;
     while done < buffer.len() {
@@ -24,7 +26,8 @@ pub fn read_full<R: Read>(from: &mut R, buffer: &mut [u8]) -> usize
 
 // One reading: how many bytes it found, 0 where it failed.
 fn read_some<R: Read>(from: &mut R, buffer: &mut [u8]) -> usize
-    ensures { result ≤ length buffer.new }
+    ensures within { result ≤ length buffer.new }
+    ensures bytes { Consumes (R.remaining from.old) (R.remaining from.new) (take result buffer.new) }
 {
     match from.read(buffer) {
         Ok(found) => found,
@@ -33,6 +36,8 @@ fn read_some<R: Read>(from: &mut R, buffer: &mut [u8]) -> usize
 }
 
 // Writes a text, and answers whether all of it was written.
-pub fn write_full<W: Write>(to: &mut W, text: &[u8]) -> bool {
+pub fn write_full<W: Write>(to: &mut W, text: &[u8]) -> bool
+    ensures { result ≡ true → Appends (W.contents to.old) (W.contents to.new) text.now }
+{
     to.write_all(text).is_ok()
 }

@@ -1,7 +1,6 @@
 -- `chart::chart_of` meets its contract: the totals are those of the table's two samples. Assumes nothing.
 use Prim.Native.Nat.{ℕ}
 use mathlib.Core.Path.{ap₂, ◌∙◌}
-use borrow.Author.Rules.{rules}
 use Rattle.contexts.specs.Sitting.{first, second, count_in}
 use Rattle.chart.specs.Answer.{answer}
 use Rattle.chart.proofs.chart_of.Goals as goal

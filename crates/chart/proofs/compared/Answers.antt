@@ -1,7 +1,6 @@
 -- `chart::compared` meets its contract: each return is one of the four cases. Assumes nothing.
 use mathlib.Core.Path.{sym, ap, ap₂, ◌∙◌}
 use native.Mathlib.Omega.{arith}
-use borrow.Author.Rules.{rules}
 use Rattle.chart.specs.Answer.{point_of}
 use Rattle.chart.specs.declared.Chart.TheVariants.{First, Second, Both}
 use Rattle.chart.proofs.Answers.{answer_neither, answer_first, answer_second, answer_both}

@@ -1,11 +1,9 @@
 -- `chart::total_of` meets its contract. The loop has added up the counts of the symbols passed. Assumes nothing.
-use Prim.Native.Nat.{ℕ, ◌+◌, ◌-◌, ◌≤◌}
-use native.Mathlib.Omega.{arith}
-use mathlib.Core.Path.{◌≡◌, refl}
+use Prim.Native.Nat.{◌-◌, ◌≤◌}
+use mathlib.Core.Path.{◌≡◌}
 use lib.ListN.{get_or}
 use Rattle.numbers.specs.Limits.{most_symbols}
 use Rattle.numbers.specs.Sum.{sum}
-use Rattle.numbers.proofs.Sums.{sum_next, sum_longer}
 use Rattle.chart.proofs.total_of.Given as goal
 
 abbrev pub invariant-loop-a : goal.invariant-loop-a

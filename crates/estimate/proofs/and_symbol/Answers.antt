@@ -2,7 +2,6 @@
 use Prim.Native.Nat.{ℕ, ◌+◌}
 use native.Mathlib.Omega.{arith}
 use mathlib.Core.Path.{◌≡◌}
-use borrow.Author.Rules.{rules}
 use Rattle.estimate.specs.Adding.{SumsAnd}
 use Rattle.estimate.specs.declared.Sums.{Sums}
 use Rattle.estimate.proofs.and_symbol.Goals as goal

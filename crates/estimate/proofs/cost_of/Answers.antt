@@ -3,7 +3,6 @@ use Prim.Native.Nat.{ℕ, ◌*◌, ◌≤◌}
 use native.Mathlib.Nat.{lt_of_le_of_lt, mul-le-mul}
 use native.Mathlib.Omega.{arith}
 use mathlib.Core.Path.{ap₂}
-use borrow.Author.Rules.{rules}
 use lib.Dec.{lit<}
 use Rattle.numbers.specs.Limits.{most_weight}
 use Rattle.estimate.proofs.cost_of.Goals as goal

@@ -1,5 +1,4 @@
 -- `estimate::losses_of` meets its contract. Assumes nothing.
-use borrow.Author.Rules.{rules}
 use Rattle.estimate.proofs.Adding as adding
 use Rattle.estimate.proofs.losses_of.Goals as goal
 

@@ -1,9 +1,8 @@
 -- `estimate::sums_of` meets its contract: the loop has the sums of the symbols passed. Assumes nothing.
-use Prim.Native.Nat.{ℕ, ◌-◌, ◌≤◌}
+use Prim.Native.Nat.{ℕ}
 use native.Mathlib.Omega.{arith}
 use mathlib.Core.Path.{◌≡◌, subst}
 use mathlib.Core.List.{List, [], ◌∷◌}
-use borrow.Author.Rules.{rules}
 use lib.ListN.{get_or}
 use Rattle.numbers.specs.Limits.{most_symbols}
 use Rattle.estimate.specs.Adding.{SumsOf}

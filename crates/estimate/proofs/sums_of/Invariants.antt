@@ -1,13 +1,8 @@
 -- `estimate::sums_of` meets its contract: the loop has the sums of the symbols passed. Assumes nothing.
-use Prim.Native.Nat.{ℕ, ◌-◌, ◌≤◌}
-use native.Mathlib.Omega.{arith}
-use mathlib.Core.Path.{◌≡◌, subst}
-use mathlib.Core.List.{List, [], ◌∷◌}
-use lib.ListN.{get_or}
+use Prim.Native.Nat.{◌-◌, ◌≤◌}
+use mathlib.Core.List.{[], ◌∷◌}
 use Rattle.numbers.specs.Limits.{most_symbols}
 use Rattle.estimate.specs.Adding.{SumsOf}
-use Rattle.estimate.specs.declared.Sums.{Sums}
-use Rattle.estimate.proofs.Adding.{sums_none, sums_next, addable}
 use Rattle.estimate.proofs.sums_of.Given as goal
 
 abbrev pub invariant-loop-a : goal.invariant-loop-a

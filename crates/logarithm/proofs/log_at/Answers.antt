@@ -1,5 +1,4 @@
 -- `logarithm::log_at` meets its contract: what is lent has L of its places, and the others are worked out. Assumes nothing.
-use borrow.Author.Rules.{rules}
 use Rattle.logarithm.proofs.log_at.Goals as goal
 
 pub returns-then-at-logs : goal.returns-then-at-logs

@@ -1,7 +1,6 @@
 -- `log_of` meets its contract. The loop's invariant: what is left of the test of `Squaring` passes, and k grows. Assumes nothing.
-use Prim.Native.Nat.{◌-◌, ◌<◌}
 use native.Mathlib.Omega.{arith}
-use Rattle.logarithm.proofs.Squaring.{mark, Passing, starts, turn, done}
+use Rattle.logarithm.proofs.Squaring.{starts, turn, done}
 use Rattle.logarithm.proofs.log_of.Goals as goal
 
 pub overflow_cast-lead-2 : goal.overflow_cast-lead-2

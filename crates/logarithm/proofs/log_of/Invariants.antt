@@ -1,7 +1,6 @@
 -- `log_of` meets its contract. The loop's invariant: what is left of the test of `Squaring` passes, and k grows. Assumes nothing.
 use Prim.Native.Nat.{◌-◌, ◌<◌}
-use native.Mathlib.Omega.{arith}
-use Rattle.logarithm.proofs.Squaring.{mark, Passing, starts, turn, done}
+use Rattle.logarithm.proofs.Squaring.{mark, Passing}
 use Rattle.logarithm.proofs.log_of.Given as goal
 
 abbrev pub invariant-loop-k : goal.invariant-loop-k

@@ -1,7 +1,6 @@
 -- `log_past` meets its contract: L of the odd part and 1,024 for each two, or the squarings. Assumes nothing.
 use mathlib.Core.Path.{sym, ap, ◌∙◌}
 use native.Mathlib.Omega.{arith}
-use borrow.Author.Rules.{rules}
 use Rattle.logarithm.specs.Logarithm.{L}
 use Rattle.logarithm.proofs.Laws.{L_zero, L_top}
 use Rattle.logarithm.proofs.Twos.{parts, by_lent}

@@ -1,10 +1,9 @@
 -- `work_out` meets its contract: the first n places have L of their number. Assumes nothing.
-use mathlib.Core.Path.{◌≡◌, refl, sym}
-use Prim.Native.Nat.{◌-◌, ◌≤◌}
+use mathlib.Core.Path.{refl, sym}
 use native.Mathlib.Omega.{arith}
-use lib.ListN.{length, length-set}
+use lib.ListN.{length-set}
 use lib.Seq.{length-take-le}
-use Rattle.logarithm.proofs.Filling.{Filled, filled_lent, filled_more}
+use Rattle.logarithm.proofs.Filling.{filled_lent, filled_more}
 use Rattle.logarithm.proofs.work_out.Goals as goal
 
 pub loop-n-init : goal.loop-n-init

@@ -1,10 +1,8 @@
 -- `work_out` meets its contract: the first n places have L of their number. Assumes nothing.
-use mathlib.Core.Path.{◌≡◌, refl, sym}
+use mathlib.Core.Path.{◌≡◌}
 use Prim.Native.Nat.{◌-◌, ◌≤◌}
-use native.Mathlib.Omega.{arith}
-use lib.ListN.{length, length-set}
-use lib.Seq.{length-take-le}
-use Rattle.logarithm.proofs.Filling.{Filled, filled_lent, filled_more}
+use lib.ListN.{length}
+use Rattle.logarithm.proofs.Filling.{Filled}
 use Rattle.logarithm.proofs.work_out.Given as goal
 
 abbrev pub invariant-loop-n : goal.invariant-loop-n

@@ -1,5 +1,4 @@
 -- `placing::put_byte` meets its contract: one store. Assumes nothing.
-use borrow.Author.Rules.{rules}
 use Rattle.placing.proofs.Laws.{puts_byte}
 use Rattle.placing.proofs.put_byte.Goals as goal
 

@@ -1,12 +1,7 @@
 -- `placing::put_bytes` meets its contract: after i turns the first i bytes stand in place. Assumes nothing.
-use Prim.Native.Nat.{ℕ, ◌+◌, ◌-◌, ◌≤◌}
-use native.Mathlib.Omega.{arith}
-use native.Mathlib.Nat.{add-zero}
-use mathlib.Core.Path.{◌≡◌, ap, ◌∙◌}
+use Prim.Native.Nat.{◌+◌, ◌-◌, ◌≤◌}
 use lib.ListN.{length, take}
-use lib.Seq.{take-length}
 use Rattle.placing.specs.Placing.{Puts}
-use Rattle.placing.proofs.Laws.{puts_length, puts_none, next_room, puts_next}
 use Rattle.placing.proofs.put_bytes.Given as goal
 
 abbrev pub invariant-loop-i : goal.invariant-loop-i

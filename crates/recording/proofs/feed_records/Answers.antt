@@ -1,6 +1,5 @@
 -- `recording::feed_records` meets its contract: the contexts that are held have got one more, and then the missing ones are added. Assumes nothing.
 use native.Mathlib.Omega.{arith}
-use borrow.Author.Rules.{rules}
 use Rattle.numbers.specs.Limits.{most_symbols, deepest}
 use Rattle.contexts.proofs.Strings.{context_length}
 use Rattle.recording.proofs.Raising.{raisable}

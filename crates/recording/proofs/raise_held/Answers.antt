@@ -1,10 +1,9 @@
 -- `recording::raise_held` meets its contract: the records at the first `done` places are raised. Assumes nothing.
 use mathlib.Core.Path.{◌≡◌}
-use Prim.Native.Nat.{◌+◌, ◌-◌, ◌*◌, ◌≤◌, ◌<◌}
+use Prim.Native.Nat.{◌+◌, ◌*◌, ◌<◌}
 use native.Mathlib.Omega.{arith}
 use lib.ListN.{length, get_or}
 use Rattle.records.specs.Records.{width}
-use Rattle.recording.specs.Counted.{raised_each}
 use Rattle.recording.proofs.Raising.{length_raised, raised_none, raised_on}
 use Rattle.recording.proofs.raise_held.Goals.{In-loop-done}
 use Rattle.recording.proofs.raise_held.Goals as goal

@@ -1,11 +1,7 @@
 -- `recording::raise_held` meets its contract: the records at the first `done` places are raised. Assumes nothing.
 use mathlib.Core.Path.{◌≡◌}
-use Prim.Native.Nat.{◌+◌, ◌-◌, ◌*◌, ◌≤◌, ◌<◌}
-use native.Mathlib.Omega.{arith}
-use lib.ListN.{length, get_or}
-use Rattle.records.specs.Records.{width}
+use Prim.Native.Nat.{◌-◌, ◌≤◌}
 use Rattle.recording.specs.Counted.{raised_each}
-use Rattle.recording.proofs.Raising.{length_raised, raised_none, raised_on}
 use Rattle.recording.proofs.raise_held.Given as goal
 
 abbrev pub invariant-loop-done : goal.invariant-loop-done

@@ -2,7 +2,6 @@
 use mathlib.Core.Path.{◌≡◌}
 use Prim.Native.Nat.{◌≤◌, ◌+◌, ◌*◌}
 use native.Mathlib.Omega.{arith}
-use borrow.Author.Rules.{rules}
 use Rattle.contexts.specs.Keys.{desk_span}
 use Rattle.records.specs.Records.{records, keys}
 use Rattle.records.specs.Held.{rank}

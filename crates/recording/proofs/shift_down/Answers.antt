@@ -1,6 +1,6 @@
 -- `recording::shift_down` meets its contract: the first i numbers have been moved down. Assumes nothing.
 use mathlib.Core.Path.{◌≡◌, refl, ap, ◌∙◌}
-use Prim.Native.Nat.{◌≤◌, ◌-◌}
+use Prim.Native.Nat.{◌-◌}
 use native.Mathlib.Omega.{arith}
 use lib.ListN.{length, length-set}
 use Rattle.recording.proofs.Shifting.{down, down_turn, down_end}

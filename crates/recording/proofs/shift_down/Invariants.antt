@@ -1,9 +1,8 @@
 -- `recording::shift_down` meets its contract: the first i numbers have been moved down. Assumes nothing.
-use mathlib.Core.Path.{◌≡◌, refl, ap, ◌∙◌}
+use mathlib.Core.Path.{◌≡◌}
 use Prim.Native.Nat.{◌≤◌, ◌-◌}
-use native.Mathlib.Omega.{arith}
-use lib.ListN.{length, length-set}
-use Rattle.recording.proofs.Shifting.{down, down_turn, down_end}
+use lib.ListN.{length}
+use Rattle.recording.proofs.Shifting.{down}
 use Rattle.recording.proofs.shift_down.Given as goal
 
 abbrev pub invariant-loop-i : goal.invariant-loop-i

@@ -1,6 +1,6 @@
 -- `recording::shift_up` meets its contract: the numbers from i on have been moved up. Assumes nothing.
 use mathlib.Core.Path.{◌≡◌, refl, ap, ◌∙◌}
-use Prim.Native.Nat.{◌≤◌, ◌-◌, ◌%◌}
+use Prim.Native.Nat.{◌-◌}
 use native.Mathlib.Omega.{arith}
 use lib.ListN.{length, length-take, length-drop}
 use Rattle.recording.proofs.Shifting.{up, up_start, up_turn, up_end, up_long}

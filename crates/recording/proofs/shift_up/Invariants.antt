@@ -1,9 +1,8 @@
 -- `recording::shift_up` meets its contract: the numbers from i on have been moved up. Assumes nothing.
-use mathlib.Core.Path.{◌≡◌, refl, ap, ◌∙◌}
+use mathlib.Core.Path.{◌≡◌}
 use Prim.Native.Nat.{◌≤◌, ◌-◌, ◌%◌}
-use native.Mathlib.Omega.{arith}
-use lib.ListN.{length, length-take, length-drop}
-use Rattle.recording.proofs.Shifting.{up, up_start, up_turn, up_end, up_long}
+use lib.ListN.{length}
+use Rattle.recording.proofs.Shifting.{up}
 use Rattle.recording.proofs.shift_up.Given as goal
 
 abbrev pub invariant-loop-i : goal.invariant-loop-i

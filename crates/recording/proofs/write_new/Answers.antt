@@ -1,11 +1,8 @@
 -- `recording::write_new` meets its contract: the first i numbers are 0. Assumes nothing.
-use mathlib.Core.Path.{◌≡◌, refl}
-use mathlib.Core.List.{◌++◌}
-use Prim.Native.Nat.{◌≤◌, ◌-◌}
+use mathlib.Core.Path.{refl}
 use native.Mathlib.Omega.{arith}
 use borrow.Author.Fill.{fill_more}
-use lib.ListN.{length, drop, replicate, length-set}
-use Rattle.records.specs.Records.{width}
+use lib.ListN.{length-set}
 use Rattle.recording.proofs.Shifting.{new_written}
 use Rattle.recording.proofs.write_new.Goals as goal
 

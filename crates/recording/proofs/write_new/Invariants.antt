@@ -1,12 +1,9 @@
 -- `recording::write_new` meets its contract: the first i numbers are 0. Assumes nothing.
-use mathlib.Core.Path.{◌≡◌, refl}
+use mathlib.Core.Path.{◌≡◌}
 use mathlib.Core.List.{◌++◌}
 use Prim.Native.Nat.{◌≤◌, ◌-◌}
-use native.Mathlib.Omega.{arith}
-use borrow.Author.Fill.{fill_more}
-use lib.ListN.{length, drop, replicate, length-set}
+use lib.ListN.{length, drop, replicate}
 use Rattle.records.specs.Records.{width}
-use Rattle.recording.proofs.Shifting.{new_written}
 use Rattle.recording.proofs.write_new.Given as goal
 
 abbrev pub invariant-loop-i : goal.invariant-loop-i

@@ -2,7 +2,6 @@
 use mathlib.Core.Path.{refl}
 use native.Mathlib.Omega.{arith}
 use Rattle.recording.proofs.Opening.{appended}
-use borrow.Author.Rules.{rules}
 use Rattle.recording.proofs.write_past.Goals as goal
 
 pub returns-then-seen-found : goal.returns-then-seen-found

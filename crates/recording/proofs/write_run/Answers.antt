@@ -1,11 +1,11 @@
 -- `recording::write_run` meets its contract: the records of the contexts that are shorter than `seen` are written. Assumes nothing.
 use mathlib.Core.Path.{◌≡◌, refl}
-use Prim.Native.Nat.{◌+◌, ◌-◌, ◌≤◌}
+use Prim.Native.Nat.{◌+◌, ◌≤◌}
 use native.Mathlib.Omega.{arith}
 use borrow.Author.Rules.{rules}
 use lib.ListN.{length}
-use Rattle.records.proofs.KeyWalk.{Walk, walk_start, walk_fits, walk_on}
-use Rattle.recording.proofs.Opening.{Run, run_start, run_on}
+use Rattle.records.proofs.KeyWalk.{walk_start, walk_fits, walk_on}
+use Rattle.recording.proofs.Opening.{run_start, run_on}
 use Rattle.recording.proofs.write_run.Goals as goal
 
 pub loop-seen-init : goal.loop-seen-init

@@ -1,10 +1,9 @@
 -- `recording::write_run` meets its contract: the records of the contexts that are shorter than `seen` are written. Assumes nothing.
-use mathlib.Core.Path.{◌≡◌, refl}
-use Prim.Native.Nat.{◌+◌, ◌-◌, ◌≤◌}
-use native.Mathlib.Omega.{arith}
+use mathlib.Core.Path.{◌≡◌}
+use Prim.Native.Nat.{◌+◌, ◌-◌}
 use lib.ListN.{length}
-use Rattle.records.proofs.KeyWalk.{Walk, walk_start, walk_fits, walk_on}
-use Rattle.recording.proofs.Opening.{Run, run_start, run_on}
+use Rattle.records.proofs.KeyWalk.{Walk}
+use Rattle.recording.proofs.Opening.{Run}
 use Rattle.recording.proofs.write_run.Given as goal
 
 abbrev pub invariant-loop-seen : goal.invariant-loop-seen

@@ -4,7 +4,6 @@ use mathlib.Core.List.{List, [], ◌∷◌}
 use Prim.Native.Nat.{ℕ}
 use native.Mathlib.Omega.{arith}
 use Rattle.records.proofs.Cells.{record_cells}
-use borrow.Author.Rules.{rules}
 use Rattle.records.proofs.counts_at.Goals as goal
 
 pub returns : goal.returns

@@ -1,6 +1,5 @@
 -- `records::eight_at` meets its contract. Assumes nothing.
 use Rattle.records.proofs.Cells.{eight_read}
-use borrow.Author.Rules.{rules}
 use Rattle.records.proofs.eight_at.Goals as goal
 
 pub returns : goal.returns

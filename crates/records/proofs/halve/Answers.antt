@@ -1,8 +1,6 @@
 -- `records::halve` meets its contract: the place lies from `low` to `high`. Assumes nothing.
-use Prim.Native.Nat.{◌≤◌, ◌-◌, ◌+◌, ◌/◌}
+use Prim.Native.Nat.{◌-◌, ◌+◌, ◌/◌}
 use native.Mathlib.Omega.{arith}
-use Rattle.records.specs.Records.{records, keys}
-use Rattle.records.specs.Held.{rank}
 use Rattle.records.proofs.Rising.{above_middle, up_to_middle}
 use Rattle.records.proofs.halve.Goals as goal
 

@@ -1,9 +1,7 @@
 -- `records::halve` meets its contract: the place lies from `low` to `high`. Assumes nothing.
-use Prim.Native.Nat.{◌≤◌, ◌-◌, ◌+◌, ◌/◌}
-use native.Mathlib.Omega.{arith}
+use Prim.Native.Nat.{◌≤◌, ◌-◌}
 use Rattle.records.specs.Records.{records, keys}
 use Rattle.records.specs.Held.{rank}
-use Rattle.records.proofs.Rising.{above_middle, up_to_middle}
 use Rattle.records.proofs.halve.Given as goal
 
 abbrev pub invariant-loop-low : goal.invariant-loop-low

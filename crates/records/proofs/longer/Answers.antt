@@ -1,6 +1,5 @@
 -- `records::longer` meets its contract: where there is a symbol, the longer key fits. Assumes nothing.
 use native.Mathlib.Omega.{arith}
-use borrow.Author.Rules.{rules}
 use borrow.Author.Tests.{lt-ltb, le-ltb}
 use lib.ListN.{length}
 use Rattle.records.proofs.longer.Goals as goal

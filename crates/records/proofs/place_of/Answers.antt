@@ -1,6 +1,5 @@
 -- `records::place_of` meets its contract: the place is one of all. Assumes nothing.
 use native.Mathlib.Omega.{arith}
-use borrow.Author.Rules.{rules}
 use Rattle.records.proofs.Rising.{rank_within}
 use Rattle.records.proofs.place_of.Goals as goal
 

@@ -1,8 +1,5 @@
 -- `records::reach` meets its contract: the place is not before `low`. Assumes nothing.
-use Prim.Native.Nat.{◌≤◌, ◌-◌}
 use native.Mathlib.Omega.{arith}
-use Rattle.records.specs.Records.{records, keys}
-use Rattle.records.specs.Held.{rank}
 use Rattle.records.proofs.Rising.{rank_within, above_middle, up_to_middle}
 use Rattle.records.proofs.reach.Goals as goal
 

@@ -1,13 +1,13 @@
 -- `records::seek` meets its contract: the contexts that are shorter than `found` are held, at their places. Assumes nothing.
 use mathlib.Core.Path.{sym, ◌∙◌}
-use Prim.Native.Nat.{◌+◌, ◌-◌, ◌≤◌, ◌<◌}
+use Prim.Native.Nat.{◌≤◌, ◌<◌}
 use native.Mathlib.Omega.{arith}
 use lib.ListN.{length}
 use Rattle.numbers.specs.Limits.{most_symbols, deepest}
 use Rattle.contexts.proofs.Strings.{context_length}
 use Rattle.records.specs.Records.{records}
-use Rattle.records.proofs.KeyWalk.{Walk, walk_start, walk_fits, walk_on}
-use Rattle.records.proofs.Seeking.{Passed, passed_start, onward, located_here, located_all, passed_on}
+use Rattle.records.proofs.KeyWalk.{walk_start, walk_fits, walk_on}
+use Rattle.records.proofs.Seeking.{passed_start, onward, located_here, located_all, passed_on}
 use Rattle.records.proofs.seek.Goals as goal
 
 pub loop-found-init : goal.loop-found-init

@@ -1,14 +1,9 @@
 -- `records::seek` meets its contract: the contexts that are shorter than `found` are held, at their places. Assumes nothing.
-use mathlib.Core.Path.{sym, ◌∙◌}
-use Prim.Native.Nat.{◌+◌, ◌-◌, ◌≤◌, ◌<◌}
-use native.Mathlib.Omega.{arith}
-use borrow.Author.Tests.{not-true, not-false}
+use Prim.Native.Nat.{◌+◌, ◌-◌}
 use lib.ListN.{length}
-use Rattle.numbers.specs.Limits.{most_symbols, deepest}
-use Rattle.contexts.proofs.Strings.{context_length}
 use Rattle.records.specs.Records.{records}
-use Rattle.records.proofs.KeyWalk.{Walk, walk_start, walk_fits, walk_on}
-use Rattle.records.proofs.Seeking.{Passed, passed_start, onward, located_here, located_all, passed_on}
+use Rattle.records.proofs.KeyWalk.{Walk}
+use Rattle.records.proofs.Seeking.{Passed}
 use Rattle.records.proofs.seek.Given as goal
 
 abbrev pub invariant-loop-found : goal.invariant-loop-found

@@ -1,7 +1,6 @@
 -- `records::stands` meets its contract: the key at its place decides. Assumes nothing.
 use mathlib.Core.Path.{sym}
 use native.Mathlib.Omega.{arith}
-use borrow.Author.Rules.{rules}
 use Rattle.records.proofs.Ranked.{held_tested, held_lost}
 use Rattle.records.proofs.stands.Goals as goal
 

@@ -1,7 +1,6 @@
 -- `records::table_of` meets its contract: the record at the key's place, or a blank one. Assumes nothing.
 use mathlib.Core.Path.{sym, ap, ◌∙◌}
 use native.Mathlib.Omega.{arith}
-use borrow.Author.Rules.{rules}
 use Rattle.records.specs.Records.{width, records}
 use Rattle.records.specs.Held.{count_table}
 use Rattle.records.proofs.Parts.{part_at}

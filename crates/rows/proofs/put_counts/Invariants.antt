@@ -1,12 +1,8 @@
 -- `rows::put_counts` meets its contract: the loop has copied the counts of the symbols passed. Assumes nothing.
-use Prim.Native.Nat.{ℕ, ◌+◌, ◌-◌, ◌≤◌, ◌<◌}
-use native.Mathlib.Numerals.{add-one}
-use native.Mathlib.Omega.{arith}
-use mathlib.Core.Path.{◌≡◌, ap, sym, ◌∙◌}
-use mathlib.Core.List.{List}
-use lib.ListN.{length, get_or, set}
-use lib.Seq.{paste, paste-zero, paste-suc, length-paste}
-use Rattle.numbers.specs.Limits.{most_symbols, row_width}
+use Prim.Native.Nat.{◌-◌, ◌≤◌}
+use mathlib.Core.Path.{◌≡◌}
+use lib.Seq.{paste}
+use Rattle.numbers.specs.Limits.{most_symbols}
 use Rattle.rows.proofs.put_counts.Given as goal
 
 abbrev pub invariant-loop-a : goal.invariant-loop-a

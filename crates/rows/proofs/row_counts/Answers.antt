@@ -1,7 +1,6 @@
 -- `rows::row_counts` meets its contract: the kind picks the added counts or a sample's. Assumes nothing.
 use Prim.Native.Nat.{ℕ, zero, suc}
 use mathlib.Core.Path.{◌≡◌, refl}
-use borrow.Author.Rules.{rules}
 use Rattle.contexts.specs.Sitting.{second}
 use Rattle.estimate.specs.Trees.{own}
 use Rattle.rows.specs.Rows.{kind_of}

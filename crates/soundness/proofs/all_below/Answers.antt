@@ -1,10 +1,8 @@
 -- `soundness::all_below` meets its contract: what is left of the part decides. Assumes nothing.
-use mathlib.Core.Path.{◌≡◌, refl, sym, ◌∙◌}
-use Prim.Native.Nat.{◌≤◌, ◌-◌}
+use mathlib.Core.Path.{refl, sym, ◌∙◌}
 use native.Mathlib.Omega.{arith}
 use borrow.Author.Tests.{lt-ltb, le-ltb}
-use lib.ListN.{length, drop, get_or}
-use Rattle.numbers.specs.Every.{all}
+use lib.ListN.{get_or}
 use Rattle.numbers.proofs.Every.{all_step, all_end}
 use Rattle.store.specs.Sound.{of_alphabet}
 use Rattle.soundness.proofs.all_below.Goals as goal

@@ -1,11 +1,8 @@
 -- `soundness::all_below` meets its contract: what is left of the part decides. Assumes nothing.
-use mathlib.Core.Path.{◌≡◌, refl, sym, ◌∙◌}
+use mathlib.Core.Path.{◌≡◌}
 use Prim.Native.Nat.{◌≤◌, ◌-◌}
-use native.Mathlib.Omega.{arith}
-use borrow.Author.Tests.{lt-ltb, le-ltb}
-use lib.ListN.{length, drop, get_or}
+use lib.ListN.{length, drop}
 use Rattle.numbers.specs.Every.{all}
-use Rattle.numbers.proofs.Every.{all_step, all_end}
 use Rattle.store.specs.Sound.{of_alphabet}
 use Rattle.soundness.proofs.all_below.Given as goal
 

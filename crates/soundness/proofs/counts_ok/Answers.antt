@@ -1,7 +1,6 @@
 -- `soundness::counts_ok` meets its contract. Assumes nothing.
 use mathlib.Core.Bool.{true, false}
 use mathlib.Core.Path.{◌≡◌, sym, ◌∙◌}
-use borrow.Author.Rules.{rules}
 use Rattle.contexts.specs.Sitting.{sum_of}
 use Rattle.store.specs.Sound.{quiet_from, counts_ok}
 use Rattle.soundness.proofs.Loops.{eight_from}

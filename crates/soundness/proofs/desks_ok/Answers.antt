@@ -1,14 +1,9 @@
 -- `soundness::desks_ok` meets its contract: the desks before have passed. Assumes nothing.
-use mathlib.Core.Bool.{true}
 use mathlib.Core.Path.{◌≡◌, sym, ◌∙◌}
-use Prim.Native.Nat.{◌-◌, ◌≤◌}
 use native.Mathlib.Omega.{arith}
 use borrow.Author.Rules.{rules}
-use lib.ListN.{length}
 use Rattle.numbers.specs.Limits.{desks}
-use Rattle.numbers.specs.Every.{every}
 use Rattle.numbers.proofs.Every.{every_next, every_none, every_fails}
-use Rattle.store.specs.Layout.{header_size}
 use Rattle.store.specs.Walk.{tally_ok}
 use Rattle.soundness.proofs.desks_ok.Goals as goal
 

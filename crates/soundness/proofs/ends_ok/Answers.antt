@@ -1,7 +1,6 @@
 -- `soundness::ends_ok` meets its contract. Assumes nothing.
 use mathlib.Core.Path.{ap}
 use Prim.Native.Nat.{ℕ, ◌%◌}
-use borrow.Author.Rules.{rules}
 use lib.Dec.{eqb}
 use Rattle.store.specs.Walk.{ends_ok}
 use Rattle.soundness.proofs.ends_ok.Goals as goal

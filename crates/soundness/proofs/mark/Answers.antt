@@ -1,5 +1,4 @@
 -- `soundness::mark` meets its contract. Assumes nothing.
-use borrow.Author.Rules.{rules}
 use borrow.Author.Tests.{lt-ltb, le-ltb}
 use Rattle.store.specs.Walk.{seen_mark}
 use Rattle.soundness.proofs.mark.Goals as goal

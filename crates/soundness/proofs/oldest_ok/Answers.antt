@@ -1,7 +1,6 @@
 -- `soundness::oldest_ok` meets its contract. Assumes nothing.
 use mathlib.Core.Path.{ap}
 use Prim.Native.Nat.{ℕ, ◌/◌, ◌%◌}
-use borrow.Author.Rules.{rules}
 use lib.Dec.{ltb}
 use Rattle.contexts.specs.Keys.{desk_span}
 use Rattle.store.specs.Walk.{oldest_ok}

@@ -1,6 +1,6 @@
 -- `soundness::quiet` meets its contract: the sum so far is 0 exactly where the counts so far from symbol `a` up are. Assumes nothing.
 use mathlib.Core.Path.{◌≡◌, sym, subst}
-use Prim.Native.Nat.{ℕ, ◌+◌, ◌-◌}
+use Prim.Native.Nat.{ℕ, ◌+◌}
 use native.Mathlib.Omega.{arith}
 use Rattle.numbers.specs.Limits.{most_symbols}
 use Rattle.store.specs.Sound.{quiet_from}

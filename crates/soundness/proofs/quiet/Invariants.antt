@@ -1,11 +1,7 @@
 -- `soundness::quiet` meets its contract: the sum so far is 0 exactly where the counts so far from symbol `a` up are. Assumes nothing.
-use mathlib.Core.Logic.{⊎_elim}
-use mathlib.Core.Path.{◌≡◌, sym, subst}
-use Prim.Native.Nat.{ℕ, ◌+◌, ◌-◌}
-use native.Mathlib.Omega.{arith}
+use Prim.Native.Nat.{◌-◌}
 use Rattle.numbers.specs.Limits.{most_symbols}
-use Rattle.store.specs.Sound.{quiet_from}
-use Rattle.soundness.proofs.Loops.{Quiet, quiet_start, quiet_add, quiet_skip}
+use Rattle.soundness.proofs.Loops.{Quiet}
 use Rattle.soundness.proofs.quiet.Given as goal
 
 abbrev pub invariant-loop-i : goal.invariant-loop-i

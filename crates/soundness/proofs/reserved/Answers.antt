@@ -1,12 +1,8 @@
 -- `soundness::reserved` meets its contract: the sum over the desks so far. Assumes nothing.
 use mathlib.Core.Path.{◌≡◌, sym}
-use Prim.Native.Nat.{◌≤◌, ◌*◌, ◌-◌}
 use native.Mathlib.Omega.{arith}
-use lib.ListN.{length}
 use Rattle.numbers.specs.Limits.{desks}
-use Rattle.numbers.specs.Sum.{sum}
 use Rattle.numbers.proofs.Sums.{sum_next, sum_none}
-use Rattle.store.specs.Layout.{header_size}
 use Rattle.store.specs.Sound.{reserved_at}
 use Rattle.soundness.proofs.reserved.Goals as goal
 

@@ -1,11 +1,9 @@
 -- `soundness::reserved` meets its contract: the sum over the desks so far. Assumes nothing.
-use mathlib.Core.Path.{◌≡◌, sym}
+use mathlib.Core.Path.{◌≡◌}
 use Prim.Native.Nat.{◌≤◌, ◌*◌, ◌-◌}
-use native.Mathlib.Omega.{arith}
 use lib.ListN.{length}
 use Rattle.numbers.specs.Limits.{desks}
 use Rattle.numbers.specs.Sum.{sum}
-use Rattle.numbers.proofs.Sums.{sum_next, sum_none}
 use Rattle.store.specs.Layout.{header_size}
 use Rattle.store.specs.Sound.{reserved_at}
 use Rattle.soundness.proofs.reserved.Given as goal

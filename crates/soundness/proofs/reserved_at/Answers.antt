@@ -1,7 +1,6 @@
 -- `soundness::reserved_at` meets its contract. Assumes nothing.
 use mathlib.Core.Path.{◌≡◌}
 use native.Mathlib.Omega.{arith}
-use borrow.Author.Rules.{rules}
 use borrow.Author.Tests.{eq-eqb, ne_eqb}
 use Rattle.store.specs.Layout.{field}
 use Rattle.soundness.proofs.reserved_at.Goals as goal

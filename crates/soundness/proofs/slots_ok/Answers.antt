@@ -2,7 +2,6 @@
 use mathlib.Core.Bool.{true, false}
 use mathlib.Core.Path.{◌≡◌, sym, ◌∙◌}
 use Prim.Native.Nat.{◌+◌}
-use borrow.Author.Rules.{rules}
 use Rattle.numbers.specs.Every.{all}
 use Rattle.contexts.specs.Sitting.{first, second}
 use Rattle.store.specs.Layout.{desk_start, symbols_at, recent_field, slots_at}

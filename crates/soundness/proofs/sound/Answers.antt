@@ -2,7 +2,6 @@
 use mathlib.Core.Bool.{true}
 use mathlib.Core.Path.{◌≡◌, sym, ◌∙◌}
 use native.Mathlib.Omega.{arith}
-use borrow.Author.Rules.{rules}
 use Rattle.numbers.proofs.Tests.{of_true}
 use Rattle.records.proofs.Lent.{tail_lent}
 use Rattle.store.specs.Layout.{header_size, records_in}

@@ -1,9 +1,9 @@
 -- `soundness::total` meets its contract: the sum of the counts so far. Assumes nothing.
 use mathlib.Core.Path.{◌≡◌}
-use Prim.Native.Nat.{◌+◌, ◌-◌}
+use Prim.Native.Nat.{◌+◌}
 use native.Mathlib.Omega.{arith}
 use Rattle.numbers.specs.Limits.{most_symbols}
-use Rattle.soundness.proofs.Loops.{Summing, summing_start, summing_more}
+use Rattle.soundness.proofs.Loops.{summing_start, summing_more}
 use Rattle.soundness.proofs.total.Goals as goal
 
 pub loop-i-init : goal.loop-i-init

@@ -2,7 +2,6 @@
 use mathlib.Core.Path.{ap}
 use Prim.Native.Nat.{ℕ, ◌+◌, ◌*◌, ◌/◌, ◌%◌}
 use native.Mathlib.Omega.{arith}
-use borrow.Author.Rules.{rules}
 use Rattle.store.specs.Walk.{up_mark}
 use Rattle.soundness.proofs.Loops.{round_le, round_le'}
 use Rattle.soundness.proofs.up_mark.Goals as goal

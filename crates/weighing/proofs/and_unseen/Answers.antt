@@ -1,5 +1,4 @@
 -- `weighing::and_unseen` meets its contract. Assumes nothing.
-use borrow.Author.Rules.{rules}
 use Rattle.weighing.proofs.and_unseen.Goals as goal
 
 pub and_child-requires : goal.and_child-requires

@@ -3,7 +3,6 @@ use borrow.Author.Tests.{le-leb, lt-leb}
 use native.Mathlib.Omega.{arith}
 use Prim.Native.Nat.{min}
 use Rattle.weighing.specs.Trees.{choice}
-use borrow.Author.Rules.{rules}
 use Rattle.weighing.proofs.choice_of.Goals as goal
 
 pub returns-then-leaf-smaller : goal.returns-then-leaf-smaller

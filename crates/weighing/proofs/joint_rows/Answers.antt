@@ -2,7 +2,6 @@
 use borrow.Author.Tests.{le-leb, lt-leb}
 use native.Mathlib.Omega.{arith}
 use Prim.Native.Nat.{min}
-use borrow.Author.Rules.{rules}
 use Rattle.weighing.proofs.joint_rows.Goals as goal
 
 pub returns-then-leaf-other : goal.returns-then-leaf-other

@@ -1,5 +1,4 @@
 -- `weighing::losses_at` meets its contract. Assumes nothing.
-use borrow.Author.Rules.{rules}
 use Rattle.weighing.proofs.losses_at.Goals as goal
 
 pub losses_of-requires : goal.losses_of-requires

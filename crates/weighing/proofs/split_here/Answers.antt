@@ -1,5 +1,4 @@
 -- `weighing::split_here` meets its contract. Assumes nothing.
-use borrow.Author.Rules.{rules}
 use Rattle.weighing.proofs.split_here.Goals as goal
 
 pub returns : goal.returns

@@ -1,5 +1,4 @@
 -- `weighing::split_mark` meets its contract. Assumes nothing.
-use borrow.Author.Rules.{rules}
 use Rattle.weighing.proofs.split_mark.Goals as goal
 
 pub returns : goal.returns

@@ -2,7 +2,6 @@
 use mathlib.Core.Path.{refl, sym, ap, ◌∙◌}
 use native.Mathlib.Omega.{arith}
 use lib.ListN.{length}
-use borrow.Author.Rules.{rules}
 use Rattle.weighing.proofs.Visiting.{bare_small, answer_absent}
 use Rattle.weighing.proofs.Whole.{root_ready, weighed}
 use Rattle.weighing.proofs.weigh.Goals as goal
