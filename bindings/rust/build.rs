@@ -1,4 +1,4 @@
-//! Links the proved library: the archive that SOBUMIKEYO_LIB names, or the one that `rt staticlib sobumikeyo` writes in this repository.
+//! Links the proved library: the archive that SOBUMIKEYO_LIB names, or the one that `rt lib` writes in this repository's crates/sobumikeyo.
 use std::path::PathBuf;
 
 const ARCHIVE: &str = "libsobumikeyo.a";
@@ -7,11 +7,11 @@ fn main() {
     println!("cargo:rerun-if-env-changed=SOBUMIKEYO_LIB");
     let archive = match std::env::var_os("SOBUMIKEYO_LIB") {
         Some(path) => PathBuf::from(path),
-        None => PathBuf::from(concat!(env!("CARGO_MANIFEST_DIR"), "/../../target/staticlib")).join(ARCHIVE),
+        None => PathBuf::from(concat!(env!("CARGO_MANIFEST_DIR"), "/../../crates/sobumikeyo/out")).join(ARCHIVE),
     };
     if !archive.ends_with(ARCHIVE) || !archive.is_file() {
         eprintln!(
-            "no library at {}: write it with `rt staticlib sobumikeyo`, or name another {ARCHIVE} by SOBUMIKEYO_LIB",
+            "no library at {}: write it with `rt lib` in crates/sobumikeyo, or name another {ARCHIVE} by SOBUMIKEYO_LIB",
             archive.display()
         );
         std::process::exit(1);

@@ -10,17 +10,17 @@ DOCUMENT = (REPOSITORY / "docs/REFUSALS.md").read_text("utf-8")
 
 # Each call as the document names it, how the definition of its list begins, and the numbers that go before the list.
 CALLS = {
-    "making a store": ("makingOrder", []),
-    "opening a desk": ("orderOf (atDesk d (opening o))", [1]),
-    "a feed, also each of a run": ("orderOf (atDesk d (asking (feed i a)))", [1]),
-    "a report": ("orderOf (atDesk d (asking (reporting sheet place)))", [1]),
-    "a chart question": ("orderOf (atDesk d (asking (charting len code a)))", [1]),
-    "closing a desk": ("orderOf (atDesk d closing)", [1]),
-    "the room question": ("orderOf roomQuestion", [1]),
-    "writing a sitting file": ("writingOrder", []),
+    "making a store": ("making_order", []),
+    "opening a desk": ("order_of (at_desk d (opening o))", [1]),
+    "a feed, also each of a run": ("order_of (at_desk d (asking (feed i a)))", [1]),
+    "a report": ("order_of (at_desk d (asking (reporting sheet place)))", [1]),
+    "a chart question": ("order_of (at_desk d (asking (charting len code a)))", [1]),
+    "closing a desk": ("order_of (at_desk d closing)", [1]),
+    "the room question": ("order_of room_question", [1]),
+    "writing a sitting file": ("writing_order", []),
 }
 # Of these the document has words first, for the first fault from the left, and then the list.
-AFTER_WORDS = {"salvaging a sitting file": "salvageOrder", "the program `sitting`": "programOrder"}
+AFTER_WORDS = {"salvaging a sitting file": "salvage_order", "the program `sitting`": "program_order"}
 
 
 def defined(name):
