@@ -18,7 +18,7 @@ EXAMPLE = bytes.fromhex("020104040001000100000100")
 LONGEST = 60  # seconds
 
 # What takes the path of a file: a command, and its words before the path.
-FILES = [("bench/before",), ("bench/constants",), ("samples/make",), ("tools/picture",)]
+FILES = [("bench/before",), ("bench/constants",), ("bench/crates",), ("bench/run",), ("samples/make",), ("tools/picture",)]
 FILES += [("bench/run", "--before")]
 FILES += [("bench/source_tables", "--program")]
 FILES += [("tools/picture", "samples/alike.sitting", "--names")]
@@ -94,7 +94,7 @@ class Commands(unittest.TestCase):
         for name in NAMES:
             self.fails("--help says more", name, "--unknown")
         modules = [f"python3 -m reference.{module}" for module in ("cases", "program", "salvage")]
-        for name in (".ci/run", "bench/crates", "bench/run", "bindings/test", *modules):
+        for name in (".ci/run", "bindings/test", *modules):
             self.fails("--help says more", name, "word")
 
     def test_files_that_cannot_be_used(self):
