@@ -34,13 +34,17 @@ good_values A D xs ys =
 abbrev pub writing_lines : ℕ → ℕ → List ℕ → List ℕ → ℕ → List Line
 writing_lines A D xs ys room = 15 when not (good_values A D xs ys) ∷ 19 when ltb room (length (file_of A D xs ys)) ∷ []
 
+-- the answer to a writing: how many bytes the file has, or why it is not written
+abbrev pub Writing : Type 0
+Writing = Result ℕ Refusal
+
 -- document 02's number of each refusal
 abbrev pub refusal_number : Refusal → ℕ
 refusal_number BadValues = 15
 refusal_number BufferShort = 19
 
 -- what an answer says: the file's length, or the refusal's number
-abbrev pub writing_outcome : Result ℕ Refusal → Outcome ℕ
+abbrev pub writing_outcome : Writing → Outcome ℕ
 writing_outcome (Ok n) = answered n
 writing_outcome (Err why) = refused (refusal_number why)
 

@@ -46,7 +46,8 @@ pub fn write(
     if file.len() < file_size(first.len(), second.len()) {
         return Err(Refusal::BufferShort);
     }
-    Ok(put_file(first, second, alphabet, depth, file))
+    let size = put_file(first, second, alphabet, depth, file);
+    Ok(size)
 }
 
 // Whether A, D, the lengths and the symbols are within their limits.

@@ -33,8 +33,8 @@ returns-then-file-file_size c =
     short_stays s.alphabet s.depth s.first.now s.second.now s.file.now (values s.alphabet s.depth s.first.now s.second.now c.if-not-good_values.ensures)
     (omega (arith, size s.alphabet s.depth s.first.now s.second.now c.if-not-good_values.ensures _ c.file_size.ensures))
 
-pub put_file-requires : goal.put_file-requires
-put_file-requires c =
+pub put_file-size-requires : goal.put_file-size-requires
+put_file-size-requires c =
     let s = c.args in
     (of_true _ (sym c.if-not-good_values.ensures), omega (arith, size s.alphabet s.depth s.first.now s.second.now c.if-not-good_values.ensures _ c.file_size.ensures))
 
@@ -42,4 +42,4 @@ pub returns : goal.returns
 returns c =
     let s = c.args in
     file_put s.alphabet s.depth s.first.now s.second.now s.file.now (values s.alphabet s.depth s.first.now s.second.now c.if-not-good_values.ensures)
-    (omega (arith, size s.alphabet s.depth s.first.now s.second.now c.if-not-good_values.ensures _ c.file_size.ensures)) _ _ c.put_file.ensures
+    (omega (arith, size s.alphabet s.depth s.first.now s.second.now c.if-not-good_values.ensures _ c.file_size.ensures)) _ _ c.put_file-size.ensures
