@@ -9,7 +9,6 @@ ghost use Rattle.calls.specs.Refusals.{ending_of};
 ghost use Rattle.printing.specs.Putting.{Printed};
 ghost use Rattle.sitting_file.specs.Format.{read_of};
 ghost use Rattle.sitting_file.specs.Input.{input_bytes};
-ghost use Rattle.sitting_file.specs.declared.Reading.TheVariants.{Accepted};
 ghost use Rattle.judgement.specs.Judgement.{room_made};
 ghost use Rattle.judgement.specs.Sitting.{seated, fed_both, run_of, Means, Feeds};
 ghost use Rattle.judgement.specs.Answers.{told_of, Answers};
@@ -18,7 +17,7 @@ ghost use Rattle.judgement.specs.Prints.{CanPrint, text_from, Prints, PrintsInpu
 use calls::{Ending, ReportAnswer};
 use judgement::SittingAnswer;
 use printing::{Head, TEXT_BYTES};
-use sitting_file::{INPUT_BYTES, Reading, Shape, judged_bytes};
+use sitting_file::{INPUT_BYTES, Shape, judged_bytes};
 
 // 2,048 + 24 times 256 numbers.
 pub const STORE_NUMBERS: usize = 8192;
@@ -43,8 +42,8 @@ pub fn sitting_answer(
     ensures { Answers file.now store.old sheet.old result store.new sheet.new }
 {
     match sitting_file::read(file) {
-        Reading::Refused(why) => SittingAnswer::Refused(sitting_file::refusal_number(why)),
-        Reading::Accepted(shape) => answer_accepted(file, shape, store, sheet),
+        Ok(shape) => answer_accepted(file, shape, store, sheet),
+        Err(fault) => SittingAnswer::Refused(u32::from(fault)),
     }
 }
 
@@ -103,7 +102,7 @@ fn put_answer(buffer: &mut [u8; TEXT_BYTES], answer: SittingAnswer, sheet: &[u32
 
 // The answer to a file that the reader accepts.
 fn answer_accepted(file: &[u8], shape: Shape, store: &mut [u32], sheet: &mut [u32]) -> SittingAnswer
-    requires { (read_of file.now ≡ Accepted shape) × (store_size room_made ≤ length store.old) }
+    requires { (read_of file.now ≡ Ok shape) × (store_size room_made ≤ length store.old) }
     ensures { Answers file.now store.old sheet.old result store.new sheet.new }
 {
     seat(store, shape);
@@ -124,7 +123,7 @@ fn seat(store: &mut [u32], shape: Shape)
 
 // Feeds the file's first sample and then its second: they are its last bytes.
 fn feed_file(file: &[u8], shape: Shape, store: &mut [u32]) -> Ending
-    requires { (read_of file.now ≡ Accepted shape) × Means store.old (seated shape) }
+    requires { (read_of file.now ≡ Ok shape) × Means store.old (seated shape) }
     ensures { Feeds (ending_of result) store.new (run_of file.now shape) }
 {
     let n = shape.first as usize;

@@ -13,7 +13,7 @@ use Rattle.printing.specs.declared.Head.{Head}
 use Rattle.sitting_file.specs.Format.{read_of}
 use Rattle.sitting_file.specs.Samples.{Below, first_of, second_of}
 use Rattle.sitting_file.specs.declared.Shape.{Shape}
-use Rattle.sitting_file.specs.declared.Reading.TheVariants.{Accepted}
+use Rattle.std.specs.Prelude.{Ok}
 use Rattle.sitting_file.proofs.AcceptedFile.{accepted_holds}
 use Rattle.judgement.specs.Judgement.{opening_of, strings_in, file_sitting, FileReport, judgement}
 use Rattle.judgement.specs.Answers as answers
@@ -31,11 +31,11 @@ back file shape first = reverse-reverse (first_of file shape)
 back file shape second = reverse-reverse (second_of file shape)
 
 -- an accepted file's symbols are below A
-below : (file : List ℕ) (shape : Shape) → read_of file ≡ Accepted shape → (i : Sample) → Below shape.alphabet (sample_in file shape i)
+below : (file : List ℕ) (shape : Shape) → read_of file ≡ Ok shape → (i : Sample) → Below shape.alphabet (sample_in file shape i)
 below file shape e first = (accepted_holds file shape e).first_below
 below file shape e second = (accepted_holds file shape e).second_below
 
-pub over : (file : List ℕ) (shape : Shape) → read_of file ≡ Accepted shape → (i : Sample) → Over shape.alphabet (strings_in file shape i)
+pub over : (file : List ℕ) (shape : Shape) → read_of file ≡ Ok shape → (i : Sample) → Over shape.alphabet (strings_in file shape i)
 unfolding strings_in
 over file shape e first = reverse_over shape.alphabet (first_of file shape) (below file shape e first)
 over file shape e second = reverse_over shape.alphabet (second_of file shape) (below file shape e second)

@@ -20,7 +20,7 @@ use Rattle.printing.specs.declared.Head.{Head}
 use Rattle.sitting_file.specs.Format.{read_of}
 use Rattle.sitting_file.specs.Samples.{Below}
 use Rattle.sitting_file.specs.declared.Shape.{Shape}
-use Rattle.sitting_file.specs.declared.Reading.TheVariants.{Accepted}
+use Rattle.std.specs.Prelude.{Ok}
 use Rattle.judgement.specs.Answers.{Answers}
 use Rattle.judgement.specs.declared.SittingAnswer.{SittingAnswer}
 use Rattle.judgement.specs.declared.SittingAnswer.TheVariants as answer
@@ -187,8 +187,8 @@ ReportsAlike =
 
 -- the second file's samples come from the first's; A and D are the same
 pub record FilesAlike (file file' : List ℕ) (shape shape' : Shape) (way : Way shape.alphabet) : Type 0 where
-  pub accepted : read_of file ≡ Accepted shape
-  pub accepted' : read_of file' ≡ Accepted shape'
+  pub accepted : read_of file ≡ Ok shape
+  pub accepted' : read_of file' ≡ Ok shape'
   pub alphabet : shape'.alphabet ≡ shape.alphabet
   pub depth : shape'.depth ≡ shape.depth
   pub samples : (i : Sample) → sample_in file' shape' i ≡ strings_by way (sample_in file shape) i

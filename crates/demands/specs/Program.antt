@@ -10,7 +10,7 @@ use Rattle.printing.specs.declared.Head.{Head}
 use Rattle.sitting_file.specs.Format.{read_of}
 use Rattle.sitting_file.specs.Samples.{Below, first_of, second_of}
 use Rattle.sitting_file.specs.declared.Shape.{Shape}
-use Rattle.sitting_file.specs.declared.Reading.TheVariants.{Accepted}
+use Rattle.std.specs.Prelude.{Ok}
 use Rattle.judgement.specs.Judgement.{opening_of, file_sitting}
 use Rattle.judgement.specs.Answers.{headed, Answers}
 use Rattle.judgement.specs.declared.SittingAnswer.TheVariants as answer
@@ -24,7 +24,7 @@ sample_in file shape second = second_of file shape
 -- the answer with this head, which left the sheet so, is the joint estimate of the file's samples
 pub record OfItsFile (file sheet : List ℕ) (head : Head) (sheet' : List ℕ) : Type 0 where
   pub shape : Shape
-  pub accepted : read_of file ≡ Accepted shape
+  pub accepted : read_of file ≡ Ok shape
   pub report : Reported
   pub estimate : JointEstimate (file_sitting file shape) report
   pub head_is : head ≡ headed shape (length report.rows) report.score

@@ -11,7 +11,7 @@ use Rattle.rules.specs.Report.{report}
 use Rattle.rules.specs.Orders.{program_order, numbers_in}
 use Rattle.sitting_file.specs.Format.{read_of}
 use Rattle.sitting_file.specs.declared.Shape.{Shape}
-use Rattle.sitting_file.specs.declared.Reading.TheVariants.{Accepted}
+use Rattle.std.specs.Prelude.{Ok}
 use Rattle.judgement.specs.Judgement.{file_sitting, file_lines, FileReport, judged}
 use Rattle.judgement.specs.Answers.{answer_for, Answers}
 use Rattle.judgement.specs.declared.SittingAnswer.{SittingAnswer}
@@ -26,7 +26,7 @@ refusal_of_lem (answered x) n e = let z : ◌≡◌ {A = ℕ} 0 1 = cc in absurd
 pub file_in_order : (file : List ℕ) (shape : Shape) (sheet : ℕ) → numbers_in (file_lines file shape sheet) ≡ program_order
 file_in_order file shape sheet = refl
 
-module _ (file store sheet store' sheet' : List ℕ) (r : SittingAnswer) (a : Answers file store sheet r store' sheet') (shape : Shape) (e : read_of file ≡ Accepted shape) where
+module _ (file store sheet store' sheet' : List ℕ) (r : SittingAnswer) (a : Answers file store sheet r store' sheet') (shape : Shape) (e : read_of file ≡ Ok shape) where
   abbrev mine : FileReport
   mine = record { shape = shape; report = report (file_sitting file shape) }
 

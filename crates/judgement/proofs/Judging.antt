@@ -17,12 +17,11 @@ use Rattle.calls.specs.declared.Refusal.{Refusal}
 use Rattle.calls.specs.declared.ReportAnswer.{ReportAnswer}
 use Rattle.calls.specs.declared.Ending.{Ending}
 use Rattle.calls.specs.declared.Ending.TheVariants as ending
-use Rattle.sitting_file.specs.Format.{read_of}
+use Rattle.sitting_file.specs.Format.{Reading, read_of}
 use Rattle.sitting_file.specs.Format as format
 use Rattle.sitting_file.specs.declared.Refusal as fault
 use Rattle.sitting_file.specs.declared.Shape.{Shape}
-use Rattle.sitting_file.specs.declared.Reading.{Reading}
-use Rattle.sitting_file.specs.declared.Reading.TheVariants as reading
+use Rattle.std.specs.Prelude.{Ok, Err}
 use Rattle.sitting_file.proofs.AcceptedFile.{accepted_holds}
 use Rattle.judgement.specs.Judgement.{room_made, opening_of, strings_in, file_sitting, FileReport, judged, judgement}
 use Rattle.judgement.specs.Sitting.{run_of, Feeds}
@@ -46,20 +45,20 @@ module _ (file store sheet : List ℕ) where
       }
 
   -- the reader refuses
-  pub reader_refuses : (why : fault.Refusal) → read_of file ≡ reading.Refused why → (r : ℕ) → r ≡ format.refusal_number why → Answers file store sheet (answer.Refused r) store sheet
+  pub reader_refuses : (why : fault.Refusal) → read_of file ≡ Err why → (r : ℕ) → r ≡ format.refusal_number why → Answers file store sheet (answer.Refused r) store sheet
   unfolding judged answers.answer_for sheet_left
-  reader_refuses why e r f = from_judged (reading.Refused why) e (refused (format.refusal_number why)) refl (answer.Refused r) store sheet (ap {B = SittingAnswer} (λ (n : ℕ). answer.Refused n) f) refl refl
+  reader_refuses why e r f = from_judged (Err why) e (refused (format.refusal_number why)) refl (answer.Refused r) store sheet (ap {B = SittingAnswer} (λ (n : ℕ). answer.Refused n) f) refl refl
 
-  module _ (shape : Shape) (e : read_of file ≡ reading.Accepted shape) where
+  module _ (shape : Shape) (e : read_of file ≡ Ok shape) where
     abbrev its_lines : List Line
     its_lines = late file shape (accepted_holds file shape e) (length sheet)
 
-    past_judged : room_made < contexts_held (file_sitting file shape) → judged file (length sheet) (reading.Accepted shape) ≡ refused 10
+    past_judged : room_made < contexts_held (file_sitting file shape) → judged file (length sheet) (Ok shape) ≡ refused 10
     unfolding judged verdict_of
     past_judged h = rw (lt-ltb room_made (contexts_held (file_sitting file shape)) h)
 
     within_judged : contexts_held (file_sitting file shape) ≤ room_made
-        → judged file (length sheet) (reading.Accepted shape) ≡ verdict_of its_lines (record { shape = shape; report = report (file_sitting file shape) })
+        → judged file (length sheet) (Ok shape) ≡ verdict_of its_lines (record { shape = shape; report = report (file_sitting file shape) })
     unfolding judged verdict_of
     within_judged h = rw (le-ltb room_made (contexts_held (file_sitting file shape)) h)
 
@@ -76,7 +75,7 @@ module _ (file store sheet : List ℕ) where
         go (whole fits d s) = never (sym d ∙ ended)
         go (stopped past d) =
             let ten : n ≡ 10 = number_same (sym ended ∙ d) in
-            from_judged (reading.Accepted shape) e (refused 10) (past_judged past) (answer.Refused n) store' sheet (ap {B = SittingAnswer} (λ (k : ℕ). answer.Refused k) ten) refl f.means
+            from_judged (Ok shape) e (refused 10) (past_judged past) (answer.Refused n) store' sheet (ap {B = SittingAnswer} (λ (k : ℕ). answer.Refused k) ten) refl f.means
 
     -- both samples are fed, and the report is asked for
     pub report_told : (x : Ending) (r : ReportAnswer) (t : SittingAnswer) (store' sheet' : List ℕ) → x ≡ ending.Whole → t ≡ told_of shape r → Feeds (ending_of x) store' (run_of file shape)
@@ -100,5 +99,5 @@ module _ (file store sheet : List ℕ) where
             p.asks.answers f.means.sound
             ∙ ap (λ (ρ : Room Progress). verdict rules ρ (at_desk 0 (asking (reporting (length sheet) 0)))) f.means.room
             ∙ asked file shape (accepted_holds file shape e) (length sheet) (run_of file shape).room s in
-            from_judged (reading.Accepted shape) e (verdict_of its_lines mine) (within_judged fits) t store' sheet' (g ∙ told_right shape its store' sheet sheet' r _ _ same asks)
+            from_judged (Ok shape) e (verdict_of its_lines mine) (within_judged fits) t store' sheet' (g ∙ told_right shape its store' sheet sheet' r _ _ same asks)
             (sheet_right shape its store' sheet sheet' _ _ _ same p asks) f.means

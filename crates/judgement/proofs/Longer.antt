@@ -6,9 +6,8 @@ use mathlib.Core.Path.{◌≡◌, sym, ap, subst, ◌∙◌}
 use mathlib.Core.List.{List}
 use lib.ListN.{length, take}
 use lib.Seq.{take_all}
-use Rattle.sitting_file.specs.Format.{read_of}
+use Rattle.sitting_file.specs.Format.{Reading, read_of}
 use Rattle.sitting_file.specs.Input.{input_bytes}
-use Rattle.sitting_file.specs.declared.Reading.{Reading}
 use Rattle.sitting_file.proofs.InputRead.{first_read, bytes_judged}
 use Rattle.sitting_file.proofs.LongInput.{input_judged}
 use Rattle.replay.specs.Table.{Outcome}

@@ -16,10 +16,9 @@ use Rattle.rules.specs.Report.{Reported, report}
 use Rattle.printing.specs.Text.{row_text, head_text, rows_text}
 use Rattle.printing.specs.Putting.{Printed}
 use Rattle.printing.proofs.Reports.{rows_first}
-use Rattle.sitting_file.specs.Format.{read_of}
+use Rattle.sitting_file.specs.Format.{Reading, read_of}
 use Rattle.sitting_file.specs.Samples.{InLimits}
-use Rattle.sitting_file.specs.declared.Reading.{Reading}
-use Rattle.sitting_file.specs.declared.Reading.TheVariants as reading
+use Rattle.std.specs.Prelude.{Ok, Err}
 use Rattle.sitting_file.proofs.AcceptedFile.{accepted_holds}
 use Rattle.judgement.specs.Judgement.{sheet_numbers, file_sitting, file_lines, FileReport, judged, judgement}
 use Rattle.judgement.specs.Answers.{answer_for, sheet_left, Answers}
@@ -42,7 +41,7 @@ rows_long (r ∷ rs) f = omega (arith, f.0.counts, rows_long rs f.1, length-appe
 
 -- ---- a file that is reported on
 pub record Stands (file : List ℕ) (sheet : ℕ) (x : FileReport) : Type 0 where
-  pub accepted : read_of file ≡ reading.Accepted x.shape
+  pub accepted : read_of file ≡ Ok x.shape
   pub limits : InLimits x.shape
   pub own : x.report ≡ report (file_sitting file x.shape)
   pub fits : length x.report.rows ≤ sheet / row_width
@@ -52,8 +51,8 @@ unfolding judged
 stands file sheet x e = go (read_of file) refl e
   where
     go : (y : Reading) → read_of file ≡ y → judged file sheet y ≡ answered x → Stands file sheet x
-    go (reading.Refused why) r e = let z : ◌≡◌ {A = ℕ} 0 1 = cc in absurd (omega arith)
-    go (reading.Accepted shape) r e =
+    go (Err why) r e = let z : ◌≡◌ {A = ℕ} 0 1 = cc in absurd (omega arith)
+    go (Ok shape) r e =
         let n = answers_none (file_lines file shape sheet) (record { shape = shape; report = report (file_sitting file shape) }) x e in
         let f = ltb-false (sheet / row_width) (0 + length (report_of (file_sitting file shape))) n.0.1.1.1.0 in
         subst (Stands file sheet) n.1 (record { accepted = r; limits = (accepted_holds file shape r).limits; own = refl; fits = omega arith })

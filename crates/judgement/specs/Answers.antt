@@ -6,10 +6,9 @@ use Rattle.calls.specs.Refusals.{refusal_number}
 use Rattle.calls.specs.declared.ReportAnswer.{ReportAnswer}
 use Rattle.calls.specs.declared.ReportAnswer.TheVariants as written
 use Rattle.printing.specs.declared.Head.{Head}
-use Rattle.sitting_file.specs.Format.{read_of}
+use Rattle.sitting_file.specs.Format.{Reading, read_of}
 use Rattle.sitting_file.specs.declared.Shape.{Shape}
-use Rattle.sitting_file.specs.declared.Reading.{Reading}
-use Rattle.sitting_file.specs.declared.Reading.TheVariants as reading
+use Rattle.std.specs.Prelude.{Ok, Err}
 use Rattle.judgement.specs.Judgement.{FileReport, judgement}
 use Rattle.judgement.specs.Sitting.{run_of, Means}
 use Rattle.judgement.specs.declared.SittingAnswer.{SittingAnswer}
@@ -46,8 +45,8 @@ sheet_left (answered x) sheet = with_rows 0 x.report.rows sheet
 
 -- the store stays where the reader refuses, and else stands for the room with the file's feeds, up to the first refused
 abbrev pub StoreAfter : List ℕ → Reading → List ℕ → List ℕ → Type 0
-StoreAfter file (reading.Refused why) before after = after ≡ before
-StoreAfter file (reading.Accepted shape) before after = Means after (run_of file shape).room
+StoreAfter file (Err why) before after = after ≡ before
+StoreAfter file (Ok shape) before after = Means after (run_of file shape).room
 
 -- a file judged with a store and a sheet lent
 pub record Answers (file store sheet : List ℕ) (r : SittingAnswer) (store' sheet' : List ℕ) : Type 0 where

@@ -11,9 +11,7 @@ ghost use Rattle.told.specs.Told.{MakeTold, MoveTold, RunTold, RoomTold, ReportT
 use calls::{ChartAnswer, ReportAnswer, RoomLeft};
 use chart::Chart;
 use salvage::Salvaged;
-use sitting_file::Reading;
 use told::{code_of, ending_code, making_code};
-use writing::Writing;
 
 // Makes a store for `room` contexts of the numbers lent, whatever they are.
 #[unsafe(no_mangle)]
@@ -121,11 +119,11 @@ pub extern "C" fn sobumikeyo_read(file: &[u8], shape: &mut [u32; 4]) -> u32
     ensures { ReadTold file.now result shape.old shape.new }
 {
     match sitting_file::read(file) {
-        Reading::Refused(why) => sitting_file::refusal_number(why),
-        Reading::Accepted(s) => {
+        Ok(s) => {
             *shape = [s.alphabet, s.depth, s.first, s.second];
             0
         }
+        Err(fault) => u32::from(fault),
     }
 }
 
@@ -142,11 +140,11 @@ pub extern "C" fn sobumikeyo_write(
     ensures { WriteTold alphabet depth first.now second.now file.old result file.new written.old written.new }
 {
     match writing::write(first, second, alphabet, depth, file) {
-        Writing::Refused(why) => writing::refusal_number(why),
-        Writing::Length(size) => {
+        Ok(size) => {
             *written = size;
             0
         }
+        Err(unwritten) => u32::from(unwritten),
     }
 }
 
@@ -162,8 +160,7 @@ pub extern "C" fn sobumikeyo_salvage(
     ensures { SalvageTold damaged.now file.old result file.new written.old written.new told.old told.new }
 {
     match salvage::salvage(damaged, file) {
-        Salvaged::Refused(why) => salvage::refusal_number(why),
-        Salvaged::File(length, lost) => {
+        Ok(Salvaged { size: length, lost }) => {
             *written = length;
             *told = [
                 lost.first.missing,
@@ -174,6 +171,7 @@ pub extern "C" fn sobumikeyo_salvage(
             ];
             0
         }
+        Err(unsaved) => u32::from(unsaved),
     }
 }
 

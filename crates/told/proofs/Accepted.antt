@@ -25,13 +25,10 @@ use Rattle.calls.specs.declared.Ending.TheVariants as ending
 use Rattle.chart.specs.declared.Chart.{Chart}
 use Rattle.calls.specs.declared.ChartAnswer.{ChartAnswer}
 use Rattle.calls.specs.declared.ChartAnswer.TheVariants as asked
-use Rattle.sitting_file.specs.Format.{read_of}
+use Rattle.sitting_file.specs.Format.{Reading, read_of}
 use Rattle.sitting_file.specs.declared.Shape.{Shape}
-use Rattle.sitting_file.specs.declared.Reading.{Reading}
-use Rattle.sitting_file.specs.declared.Reading.TheVariants as reading
-use Rattle.writing.specs.Writing.{WritesFile, writing_outcome}
-use Rattle.writing.specs.declared.Writing.{Writing}
-use Rattle.writing.specs.declared.Writing.TheVariants as put
+use Rattle.std.specs.Prelude.{Ok, Err}
+use Rattle.writing.specs.Writing.{Writing, WritesFile, writing_outcome}
 use Rattle.told.specs.Codes.{told_as, read_code}
 use Rattle.told.specs.Outputs.{left_after, rows_after, score_after, shape_after, length_after, seen_in, first_in, second_in, gap_in, seen_after, first_after, second_after, gap_after}
 use Rattle.told.specs.Told.{MakeTold, MoveTold, RunTold, RoomTold, ReportTold, ReadTold, WriteTold, ChartTold}
@@ -105,7 +102,7 @@ module _ {s : List ℕ} {d len code a old seen : ℕ} {first first' second secon
 -- ---- a file: what it announces
 pub record Announced (bytes new : List ℕ) : Type 0 where
   pub shape : Shape
-  pub accepted : read_of bytes ≡ reading.Accepted shape
+  pub accepted : read_of bytes ≡ Ok shape
   pub output : new ≡ shape.alphabet ∷ shape.depth ∷ shape.first ∷ shape.second ∷ []
 
 module _ {bytes old new : List ℕ} where
@@ -113,8 +110,8 @@ module _ {bytes old new : List ℕ} where
   read_accepted m = go (read_of bytes) refl m.number m.output
     where
       go : (x : Reading) → read_of bytes ≡ x → 0 ≡ read_code x → new ≡ shape_after x old → Announced bytes new
-      go (reading.Accepted x) p e f = record { shape = x; accepted = p; output = f }
-      go (reading.Refused why) p e f = absurd (omega (arith, fault_above_zero why, e))
+      go (Ok x) p e f = record { shape = x; accepted = p; output = f }
+      go (Err why) p e f = absurd (omega (arith, fault_above_zero why, e))
 
 -- ---- a file written: its length was put out
 module _ {A D : ℕ} {xs ys before after : List ℕ} {old size : ℕ} where
@@ -123,5 +120,5 @@ module _ {A D : ℕ} {xs ys before after : List ℕ} {old size : ℕ} where
     where
       go : (x : Writing) → WritesFile A D xs ys before (writing_outcome x) after → 0 ≡ told_as (writing_outcome x) → size ≡ length_after (writing_outcome x) old
           → WritesFile A D xs ys before (answered size) after
-      go (put.Length n) p e f = subst (λ (k : ℕ). WritesFile A D xs ys before (answered k) after) (sym f) p
-      go (put.Refused why) p e f = absurd (omega (arith, writing_above_zero why, e))
+      go (Ok n) p e f = subst (λ (k : ℕ). WritesFile A D xs ys before (answered k) after) (sym f) p
+      go (Err why) p e f = absurd (omega (arith, writing_above_zero why, e))

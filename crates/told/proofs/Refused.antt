@@ -17,9 +17,8 @@ use Rattle.calls.specs.declared.ReportAnswer.TheVariants as written
 use Rattle.calls.specs.Run.{Runs}
 use Rattle.calls.specs.declared.ChartAnswer.{ChartAnswer}
 use Rattle.calls.specs.declared.ChartAnswer.TheVariants as asked
-use Rattle.sitting_file.specs.Format.{read_of}
-use Rattle.sitting_file.specs.declared.Reading.{Reading}
-use Rattle.sitting_file.specs.declared.Reading.TheVariants as reading
+use Rattle.sitting_file.specs.Format.{Reading, read_of}
+use Rattle.std.specs.Prelude.{Ok, Err}
 use Rattle.writing.specs.Writing.{WritesFile, writing_outcome}
 use Rattle.salvage.specs.Salvage.{Saved, Salvages}
 use Rattle.told.specs.Codes.{told_as, read_code}
@@ -72,8 +71,8 @@ module _ {bytes old new : List ℕ} where
   read_refused {n} m = go (read_of bytes) m.number m.output
     where
       go : (x : Reading) → suc n ≡ read_code x → new ≡ shape_after x old → new ≡ old
-      go (reading.Accepted x) e f = absurd (omega (arith, e))
-      go (reading.Refused why) e f = f
+      go (Ok x) e f = absurd (omega (arith, e))
+      go (Err why) e f = f
 
 -- ---- a file that is not written: the bytes and the length stay
 module _ {A D : ℕ} {xs ys before after : List ℕ} {old size : ℕ} where

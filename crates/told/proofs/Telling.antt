@@ -16,17 +16,14 @@ use Rattle.calls.specs.declared.ReportAnswer.TheVariants as written
 use Rattle.chart.specs.declared.Chart.{Chart}
 use Rattle.calls.specs.declared.ChartAnswer.{ChartAnswer}
 use Rattle.calls.specs.declared.ChartAnswer.TheVariants as asked
-use Rattle.sitting_file.specs.Format.{read_of}
+use Rattle.sitting_file.specs.Format.{Reading, read_of}
 use Rattle.sitting_file.specs.Format as format
 use Rattle.sitting_file.specs.declared.Refusal as file
 use Rattle.sitting_file.specs.declared.Shape.{Shape}
-use Rattle.sitting_file.specs.declared.Reading.{Reading}
-use Rattle.sitting_file.specs.declared.Reading.TheVariants as reading
-use Rattle.writing.specs.Writing.{WritesFile, writing_outcome}
+use Rattle.std.specs.Prelude.{Ok, Err}
+use Rattle.writing.specs.Writing.{Writing, WritesFile, writing_outcome}
 use Rattle.writing.specs.Writing as writing
 use Rattle.writing.specs.declared.Refusal as writer
-use Rattle.writing.specs.declared.Writing.{Writing}
-use Rattle.writing.specs.declared.Writing.TheVariants as put
 use Rattle.told.specs.Codes.{told_as, read_code}
 use Rattle.told.specs.Outputs.{left_after, rows_after, score_after, shape_after, length_after, seen_in, first_in, second_in, gap_in, seen_after, first_after, second_after, gap_after}
 use Rattle.told.specs.Told.{RoomTold, ReportTold, ReadTold, WriteTold, ChartTold}
@@ -72,19 +69,19 @@ module _ {s : List ℕ} {d place : ℕ} {before after : List ℕ} {rows : ℕ} {
 
 -- ---- a file
 module _ {bytes old : List ℕ} (x : Reading) (p : x ≡ read_of bytes) where
-  pub read_refused : {why : file.Refusal} {r : ℕ} → x ≡ reading.Refused why → r ≡ format.refusal_number why → ReadTold bytes r old old
+  pub read_refused : {why : file.Refusal} {r : ℕ} → x ≡ Err why → r ≡ format.refusal_number why → ReadTold bytes r old old
   read_refused e n =
       let e' = sym p ∙ e in
       record { number = n ∙ sym (ap read_code e'); output = sym (ap (λ (a : Reading). shape_after a old) e') }
 
-  pub read_told : {shape : Shape} → x ≡ reading.Accepted shape → ReadTold bytes 0 old (shape.alphabet ∷ shape.depth ∷ shape.first ∷ shape.second ∷ [])
+  pub read_told : {shape : Shape} → x ≡ Ok shape → ReadTold bytes 0 old (shape.alphabet ∷ shape.depth ∷ shape.first ∷ shape.second ∷ [])
   read_told e =
       let e' = sym p ∙ e in
       record { number = sym (ap read_code e'); output = sym (ap (λ (a : Reading). shape_after a old) e') }
 
 -- ---- a file written
 module _ {A D : ℕ} {xs ys before after : List ℕ} {old : ℕ} (x : Writing) (p : WritesFile A D xs ys before (writing_outcome x) after) where
-  pub write_refused : {why : writer.Refusal} {r : ℕ} → x ≡ put.Refused why → r ≡ writing.refusal_number why → WriteTold A D xs ys before r after old old
+  pub write_refused : {why : writer.Refusal} {r : ℕ} → x ≡ Err why → r ≡ writing.refusal_number why → WriteTold A D xs ys before r after old old
   write_refused e n = record {
     answer = x;
     promise = p;
@@ -92,7 +89,7 @@ module _ {A D : ℕ} {xs ys before after : List ℕ} {old : ℕ} (x : Writing) (
     output = sym (ap (λ (a : Writing). length_after (writing_outcome a) old) e);
   }
 
-  pub write_told : {size : ℕ} → x ≡ put.Length size → WriteTold A D xs ys before 0 after old size
+  pub write_told : {size : ℕ} → x ≡ Ok size → WriteTold A D xs ys before 0 after old size
   write_told e = record {
     answer = x;
     promise = p;

@@ -5,13 +5,13 @@ use Rattle.calls.specs.declared.RoomLeft.{RoomLeft}
 use Rattle.calls.specs.declared.RoomLeft.TheVariants as question
 use Rattle.calls.specs.declared.ReportAnswer.{ReportAnswer}
 use Rattle.calls.specs.declared.ReportAnswer.TheVariants as written
-use Rattle.sitting_file.specs.declared.Reading.{Reading}
-use Rattle.sitting_file.specs.declared.Reading.TheVariants as reading
+use Rattle.std.specs.Prelude.{Ok, Err}
 use Rattle.salvage.specs.Salvage.{loss_numbers, Saved}
 use Rattle.chart.specs.declared.Chart.{Chart}
 use Rattle.chart.specs.declared.Chart.TheVariants as chart
 use Rattle.calls.specs.declared.ChartAnswer.{ChartAnswer}
 use Rattle.calls.specs.declared.ChartAnswer.TheVariants as asked
+use Rattle.sitting_file.specs.Format.{Reading}
 
 -- how many contexts are left
 abbrev pub left_after : RoomLeft → ℕ → ℕ
@@ -29,8 +29,8 @@ score_after (written.Refused why) old = old
 
 -- A, D, n and m
 abbrev pub shape_after : Reading → List ℕ → List ℕ
-shape_after (reading.Accepted x) old = x.alphabet ∷ x.depth ∷ x.first ∷ x.second ∷ []
-shape_after (reading.Refused why) old = old
+shape_after (Ok x) old = x.alphabet ∷ x.depth ∷ x.first ∷ x.second ∷ []
+shape_after (Err why) old = old
 
 -- the length of a file that was written
 abbrev pub length_after : Outcome ℕ → ℕ → ℕ

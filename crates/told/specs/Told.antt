@@ -15,8 +15,7 @@ use Rattle.calls.specs.Run.{Runs}
 use Rattle.calls.specs.declared.Ending.{Ending}
 use Rattle.calls.specs.declared.ChartAnswer.{ChartAnswer}
 use Rattle.sitting_file.specs.Format.{read_of}
-use Rattle.writing.specs.Writing.{WritesFile, writing_outcome}
-use Rattle.writing.specs.declared.Writing.{Writing}
+use Rattle.writing.specs.Writing.{Writing, WritesFile, writing_outcome}
 use Rattle.salvage.specs.Salvage.{Saved, Salvages}
 use Rattle.told.specs.Codes.{told_as, read_code}
 use Rattle.told.specs.Outputs.{left_after, rows_after, score_after, shape_after, length_after, size_after, losses_after, seen_after, first_after, second_after, gap_after}

@@ -7,8 +7,8 @@ use Rattle.answering.proofs.sitting_answer.Goals as goal
 
 pub answer_accepted-requires : goal.answer_accepted-requires
 answer_accepted-requires c =
-    (sym c.read.ensures ∙ c.in-Accepted.is, omega arith)
+    (sym c.read.ensures ∙ c.in-Ok.is, omega arith)
 
-pub returns-in-Refused : goal.returns-in-Refused
-returns-in-Refused c =
-    reader_refuses _ _ _ _ (sym c.read.ensures ∙ c.in-Refused.is) _ c.refusal_number.ensures
+pub returns-in-Err : goal.returns-in-Err
+returns-in-Err c =
+    reader_refuses _ _ _ _ (sym c.read.ensures ∙ c.in-Err.is) _ c.from.ensures
