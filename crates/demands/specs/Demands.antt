@@ -32,7 +32,7 @@ use Rattle.sitting_file.specs.Format.{header_of}
 use Rattle.sitting_file.specs.Samples.{Below}
 use Rattle.sitting_file.specs.declared.Refusal as file
 use Rattle.sitting_file.specs.declared.Shape.{Shape}
-use Rattle.sitting_file.specs.declared.Heading.TheVariants.{Whole, Faulty}
+use Rattle.std.specs.Prelude.{Ok, Err}
 use Rattle.demands.specs.Runs.{OnSheet, Does, MadeNew, Run}
 
 -- ---- DEMAND 1: "refuses by number under the stated conditions and no others. A refused call changes neither the store nor the sheet."
@@ -81,9 +81,9 @@ pub record Demand1Writing (A D : ℕ) (xs ys before : List ℕ) (o : Outcome ℕ
 pub record Demand1Salvage (damaged before : List ℕ) (o : Outcome Saved) (after : List ℕ) : Type 0 where
   pub refused_exactly : (n : ℕ) → (o ≡ refused n) ↔ First (salvage_lines (header_of damaged) damaged (length before)) n
   pub saved_exactly : ((s : Saved) × (o ≡ answered s)) ↔ NoneApplies (salvage_lines (header_of damaged) damaged (length before))
-  pub in_order : (shape : Shape) (at : ℕ) → header_of damaged ≡ Whole shape at → numbers_in (salvage_lines (header_of damaged) damaged (length before)) ≡ salvage_order
+  pub in_order : (shape : Shape) (at : ℕ) → header_of damaged ≡ Ok (shape, at) → numbers_in (salvage_lines (header_of damaged) damaged (length before)) ≡ salvage_order
   -- a faulty header has the reader's number, never 16
-  pub as_the_reader : (why : file.Refusal) → header_of damaged ≡ Faulty why → RefusedAsRead damaged why o
+  pub as_the_reader : (why : file.Refusal) → header_of damaged ≡ Err why → RefusedAsRead damaged why o
   pub refused_stays : (n : ℕ) → o ≡ refused n → after ≡ before
 
 -- ---- DEMAND 2: "A report is the joint context tree estimate .."
