@@ -23,7 +23,7 @@ use Rattle.calls.specs.Promises.{Reports, with_rows}
 use Rattle.calls.specs.Refusals.{refusal_number}
 use Rattle.calls.specs.declared.Refusal.{Refusal}
 use Rattle.calls.specs.declared.Refusal.TheVariants.{Unsound, NoSuchDesk, NotOpen, SampleEmpty, SheetShort, SampleShort}
-use Rattle.std.specs.Prelude.{Result, Ok, Err}
+use Rattle.std.specs.Prelude.{Ok, Err}
 use Rattle.calls.proofs.Reporting as table
 use Rattle.demands.specs.Runs.{CanDo}
 

@@ -7,7 +7,7 @@ use Rattle.store.specs.Making.{Makes}
 use Rattle.rules.specs.Rules.{Answer, feed, reporting, charting, rules}
 use Rattle.calls.specs.Refusals.{written_of}
 use Rattle.changes.specs.Words.{Words}
-use Rattle.std.specs.Prelude.{Result, Ok, Err}
+use Rattle.std.specs.Prelude.{Result, Ok}
 use Rattle.calls.specs.declared.Refusal.{Refusal}
 use Rattle.calls.specs.declared.Reported as written
 use Rattle.calls.specs.Promises.{Moves, Asks, Reports}
