@@ -12,8 +12,8 @@ use Rattle.salvage.specs.Salvage.{Saved, salvage_lines, Salvages}
 use Rattle.salvage.proofs.Refusing.{by_lines, as_the_reader}
 use Rattle.sitting_file.specs.Format.{header_of}
 use Rattle.store.specs.Making.{room_outside, store_short, made_of, Makes}
-use Rattle.store.specs.declared.Made.{Made}
-use Rattle.store.specs.declared.Made.TheVariants.{Done, RoomOutside, StoreShort}
+use Rattle.std.specs.Prelude.{Result, Ok, Err}
+use Rattle.store.specs.declared.Refusal as making
 use Rattle.store.specs.Sound.{soundb}
 use Rattle.store.specs.Meaning.{meaning}
 use Rattle.rules.specs.Rules.{Answer, done, feed, reporting, charting, rules}
@@ -71,7 +71,7 @@ making_by_table K n = go (room_outside K) (store_short K n)
     go false true = refl
     go false false = refl
 
-pub demand_1_making : (K : ℕ) (σ τ : List ℕ) (m : Made) → Makes K σ m τ → Demand1Making K σ m τ
+pub demand_1_making : (K : ℕ) (σ τ : List ℕ) (m : Result (Unit {0}) making.Refusal) → Makes K σ m τ → Demand1Making K σ m τ
 demand_1_making K σ τ m makes =
     let e : making_of m ≡ verdict_of (making_table K (length σ)) done = ap making_of makes.answered ∙ making_by_table K (length σ) in
     record {

@@ -18,8 +18,8 @@ use Rattle.writing.specs.Writing.{file_of, writing_lines}
 use Rattle.salvage.specs.Salvage.{Saved, salvage_lines}
 use Rattle.salvage.specs.Saving.{RefusedAsRead}
 use Rattle.store.specs.Making.{room_outside, store_short}
-use Rattle.store.specs.declared.Made.{Made}
-use Rattle.store.specs.declared.Made.TheVariants.{Done, RoomOutside, StoreShort}
+use Rattle.std.specs.Prelude.{Result, Ok, Err}
+use Rattle.store.specs.declared.Refusal as making
 use Rattle.store.specs.Sound.{soundb}
 use Rattle.store.specs.Meaning.{meaning}
 use Rattle.rules.specs.Feed.{counted_from}
@@ -57,13 +57,13 @@ abbrev pub making_table : ℕ → ℕ → List Line
 making_table K n = 17 when room_outside K ∷ 18 when store_short K n ∷ []
 
 -- the answer of a making as an outcome
-abbrev pub making_of : Made → Outcome Answer
+abbrev pub making_of : Result (Unit {0}) making.Refusal → Outcome Answer
 making_of Done = answered done
 making_of RoomOutside = refused 17
 making_of StoreShort = refused 18
 
 -- a making of room K with the numbers σ that answers m and leaves τ
-pub record Demand1Making (K : ℕ) (σ : List ℕ) (m : Made) (τ : List ℕ) : Type 0 where
+pub record Demand1Making (K : ℕ) (σ : List ℕ) (m : Result (Unit {0}) making.Refusal) (τ : List ℕ) : Type 0 where
   pub refused_exactly : (n : ℕ) → (making_of m ≡ refused n) ↔ First (making_table K (length σ)) n
   pub made_exactly : (making_of m ≡ answered done) ↔ NoneApplies (making_table K (length σ))
   pub in_order : numbers_in (making_table K (length σ)) ≡ making_order
