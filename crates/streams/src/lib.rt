@@ -7,7 +7,7 @@ ghost use Rattle.std.specs.Io.KnownBytes.{Consumes, Appends};
 use std::io::{Read, Write};
 
 // Reads until the buffer is full, the input ends or a reading fails, and answers how many bytes it put at the buffer's start. For an empty buffer
-// nothing is read.
+// nothing is read. The loop stays: where the input ends early `read_exact` does not say how many bytes it found, which `bytes` promises.
 pub fn read_full<R: Read>(from: &mut R, buffer: &mut [u8]) -> usize
     ensures within { result ≤ length buffer.new }
     ensures taken { result ≡ length (take result buffer.new) }
@@ -29,10 +29,7 @@ fn read_some<R: Read>(from: &mut R, buffer: &mut [u8]) -> usize
     ensures within { result ≤ length buffer.new }
     ensures bytes { Consumes (R.remaining from.old) (R.remaining from.new) (take result buffer.new) }
 {
-    match from.read(buffer) {
-        Ok(found) => found,
-        Err(_) => 0,
-    }
+    from.read(buffer).unwrap_or(0)
 }
 
 // Writes a text, and answers whether all of it was written.
