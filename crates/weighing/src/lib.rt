@@ -89,6 +89,7 @@ pub struct Weighed {
 
 // What stays the same all through a walk: the logarithms that are lent, the first `n` records of some numbers, the desk, and what a context of
 // each kind costs.
+#[derive(Clone, Copy)]
 struct Walk<'a> {
     logs: LentLogs<'a>,
     numbers: &'a [u32],

@@ -11,9 +11,9 @@ returns-then-n-eq0 c = sym (ap L c.if-n-eq0.true ∙ L_zero)
 
 pub overflow_add-result : goal.overflow_add-result
 overflow_add-result c =
-    let e = by_lent c.args.logs.values.now c.args.n c.args.logs.are_logs c.if-n-eq0.false c.requires c.if-odd-logs.true in
+    let e = by_lent c.args.logs.values.now c.args.n c.args.logs.are_logs c.if-n-eq0.false c.if-odd-logs.true in
     omega (arith, e, L_top c.args.n c.requires)
 
 pub returns-then-odd-logs : goal.returns-then-odd-logs
 returns-then-odd-logs c =
-    by_lent c.args.logs.values.now c.args.n c.args.logs.are_logs c.if-n-eq0.false c.requires c.if-odd-logs.true
+    by_lent c.args.logs.values.now c.args.n c.args.logs.are_logs c.if-n-eq0.false c.if-odd-logs.true
