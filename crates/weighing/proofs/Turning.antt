@@ -24,7 +24,8 @@ use Rattle.weighing.specs.declared.Context.{Context}
 use Rattle.weighing.specs.declared.Weighed.{Weighed}
 use Rattle.weighing.specs.Sitting.{sitting_in}
 use Rattle.weighing.specs.Trees.{least_at, members_at}
-use Rattle.weighing.specs.Visit.{end_of, Arrived, CanVisit, Marked, Apart, Visited, most_loss, LeafOf, SumFits, CanAdd, ChildOf, CanAddUnseen}
+use Rattle.estimate.specs.Adding.{SumFits}
+use Rattle.weighing.specs.Visit.{end_of, Arrived, CanVisit, Marked, Apart, Visited, most_loss, LeafOf, CanAdd, ChildOf, CanAddUnseen}
 use Rattle.weighing.proofs.Cursor.{turn_key, within, turn_at}
 use Rattle.records.proofs.Rising.{rank_mono}
 use Rattle.weighing.proofs.Blocks.{block_key}

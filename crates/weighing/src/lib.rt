@@ -5,18 +5,18 @@
 ghost use Rattle.std.specs.Prelude.{◌≡◌, cond, not, ◌+◌, ◌≤◌, ◌<◌, ◌^◌, min, length, leb};
 ghost use Rattle.numbers.specs.Sum.{one};
 ghost use Rattle.contexts.specs.Keys.{context_of};
-ghost use Rattle.logarithm.specs.Table.{AreLogs};
 ghost use Rattle.estimate.specs.Table.{LossesOf};
 ghost use Rattle.records.specs.Held.{record_at, count_table};
 ghost use Rattle.weighing.specs.Trees.{choice};
 ghost use Rattle.weighing.specs.Weighs.{CanWeigh, Weighs};
-ghost use Rattle.weighing.specs.Visit.{Countable, CanVisit, Visited, Small, LeafOf, LeafHere, SplitOf, SplitHere, SumOf, SumFits, NoneOf, CanAdd, ChildOf, CanAddUnseen, UnseenOf, leaf_mark, split_mark};
+ghost use Rattle.weighing.specs.Visit.{Countable, CanVisit, Visited, Small, LeafOf, LeafHere, SplitOf, SplitHere, NoneOf, CanAdd, ChildOf, CanAddUnseen, UnseenOf, leaf_mark, split_mark};
 
 use estimate::ByKind;
+use logarithm::LentLogs;
 use records::{DESK_SPAN, stands};
 
 // An open desk: its number, A, D, the weight and the samples' lengths.
-#[derive(Clone, Copy)]
+#[derive(Clone, Copy, Debug, PartialEq, Eq)]
 pub struct Desk {
     pub number: u32,
     pub symbols: u32,
@@ -27,7 +27,7 @@ pub struct Desk {
 }
 
 // What the trees of a desk's sitting lose at least, each alone and both together, and how many rows its report has.
-#[derive(Clone, Copy)]
+#[derive(Clone, Copy, Debug, PartialEq, Eq)]
 pub struct Least {
     pub first: u64,
     pub second: u64,
@@ -36,11 +36,18 @@ pub struct Least {
 }
 
 // Weighs the trees of a desk over the first `n` records, and keeps the decision at each of its contexts beside the record.
-pub fn weigh(logs: &[u32], numbers: &[u32], n: usize, desk: Desk, kept: &mut [u8]) -> Least
-    requires { AreLogs logs.now × CanWeigh desk n numbers.now kept.old }
+pub fn weigh(logs: LentLogs, numbers: &[u32], n: usize, desk: Desk, kept: &mut [u8]) -> Least
+    requires { CanWeigh desk n numbers.now kept.old }
     ensures { Weighs desk n numbers.now kept.old kept.new result }
 {
     let costs = estimate::costs_of(logs, desk.weight, desk.symbols, desk.n, desk.m);
+    let walk = Walk {
+        logs,
+        numbers,
+        n,
+        desk,
+        costs,
+    };
     let key = desk.number * DESK_SPAN;
     let root = Context {
         key,
@@ -49,7 +56,7 @@ pub fn weigh(logs: &[u32], numbers: &[u32], n: usize, desk: Desk, kept: &mut [u8
     };
     let at = records::place_of(numbers, n, key);
     let w = if stands(numbers, n, at, key) {
-        visit(logs, numbers, kept, n, desk, costs, root, at)
+        walk.visit(kept, root, at)
     } else {
         as_leaf(costs, at)
     };
@@ -80,43 +87,52 @@ pub struct Weighed {
     pub next: usize,
 }
 
-// The trees at a held context, whose place the walk has come to. A child that is not held is answered without a call.
-// The decision at each record of the context's block is kept beside it.
-fn visit(
-    logs: &[u32],
-    numbers: &[u32],
-    kept: &mut [u8],
+// What stays the same all through a walk: the logarithms that are lent, the first `n` records of some numbers, the desk, and what a context of
+// each kind costs.
+#[derive(Clone, Copy)]
+struct Walk<'a> {
+    logs: LentLogs<'a>,
+    numbers: &'a [u32],
     n: usize,
     desk: Desk,
     costs: ByKind,
-    here: Context,
-    at: usize,
-) -> Weighed
-    requires { AreLogs logs.now × CanVisit desk costs n numbers.now kept.old here at }
-    ensures { Visited desk n numbers.now (context_of here.key) here.left at kept.old kept.new result }
-{
-    let own = losses_at(logs, numbers, at, costs);
-    if here.left == 0 {
-        return leaf_here(kept, at, own);
-    }
-    let span = here.span / 8;
-    let mut key = here.key + 1;
-    let mut children = none_yet(at + 1);
-    let mut a: u32 = 0;
-    while a < desk.symbols {
-        let next = children.next;
-        if stands(numbers, n, next, key) {
-            let left = here.left - 1;
-            let child = Context { key, span, left };
-            let w = visit(logs, numbers, kept, n, desk, costs, child, next);
-            children = and_child(children, w);
-        } else {
-            children = and_unseen(children, costs);
+}
+
+impl Walk<'_> {
+    // The trees at a held context, whose place the walk has come to. A child that is not held is answered without a call.
+    // The decision at each record of the context's block is kept beside it.
+    fn visit(&self, kept: &mut [u8], here: Context, at: usize) -> Weighed
+        requires { CanVisit self.now.desk self.now.costs self.now.n self.now.numbers.now kept.old here at }
+        ensures { Visited self.now.desk self.now.n self.now.numbers.now (context_of here.key) here.left at kept.old kept.new result }
+    {
+        let own = self.losses_at(at);
+        if here.left == 0 {
+            return leaf_here(kept, at, own);
         }
-        key += span;
-        a += 1;
+        let span = here.span / 8;
+        let mut key = here.key + 1;
+        let mut children = none_yet(at + 1);
+        for _ in 0..self.desk.symbols {
+            let next = children.next;
+            if stands(self.numbers, self.n, next, key) {
+                let left = here.left - 1;
+                let child = Context { key, span, left };
+                children = and_child(children, self.visit(kept, child, next));
+            } else {
+                children = and_unseen(children, self.costs);
+            }
+            key += span;
+        }
+        split_here(kept, at, own, children)
     }
-    split_here(kept, at, own, children)
+
+    // The losses of the context of the record at a place.
+    fn losses_at(&self, at: usize) -> ByKind
+        requires { Countable self.now.numbers.now at self.now.costs }
+        ensures { LossesOf (count_table (record_at at self.now.numbers.now)) self.now.costs result }
+    {
+        estimate::losses_of(self.logs, records::counts_at(self.numbers, at), self.costs)
+    }
 }
 
 // The context of the record at a place is a leaf with these losses: its decision is kept there, and the walk goes on behind it.
@@ -137,14 +153,6 @@ fn split_here(kept: &mut [u8], at: usize, own: ByKind, children: Weighed) -> Wei
     as_split(own, children)
 }
 
-// The losses of the context of the record at a place.
-fn losses_at(logs: &[u32], numbers: &[u32], at: usize, costs: ByKind) -> ByKind
-    requires { AreLogs logs.now × Countable numbers.now at costs }
-    ensures { LossesOf (count_table (record_at at numbers.now)) costs result }
-{
-    estimate::losses_of(logs, records::counts_at(numbers, at), costs)
-}
-
 // The context is a leaf with these losses.
 fn as_leaf(own: ByKind, next: usize) -> Weighed
     requires { Small own }
@@ -152,14 +160,13 @@ fn as_leaf(own: ByKind, next: usize) -> Weighed
 {
     let apart = own.first + own.second;
     let rows = ByKind {
-        shared: leaf_rows(own.shared, apart),
+        shared: of_less(own.shared, apart, 1, 2),
         first: 1,
         second: 1,
     };
     let least = ByKind {
-        shared: smaller(own.shared, apart),
-        first: own.first,
-        second: own.second,
+        shared: own.shared.min(apart),
+        ..own
     };
     Weighed { least, rows, next }
 }
@@ -171,24 +178,19 @@ fn as_split(own: ByKind, children: Weighed) -> Weighed
 {
     let below = children.least;
     let held = children.rows;
-    let first = smaller(own.first, below.first);
-    let second = smaller(own.second, below.second);
-    let first_rows = own_rows(own.first, below.first, held.first);
-    let second_rows = own_rows(own.second, below.second, held.second);
+    let first = own.first.min(below.first);
+    let second = own.second.min(below.second);
+    let first_rows = of_less(own.first, below.first, 1, held.first);
+    let second_rows = of_less(own.second, below.second, 1, held.second);
     let apart = first + second;
+    let apart_rows = of_less(apart, below.shared, first_rows + second_rows, held.shared);
     let rows = ByKind {
-        shared: joint_rows(
-            own.shared,
-            apart,
-            below.shared,
-            first_rows + second_rows,
-            held.shared,
-        ),
+        shared: of_less(own.shared, apart.min(below.shared), 1, apart_rows),
         first: first_rows,
         second: second_rows,
     };
     let least = ByKind {
-        shared: smaller(own.shared, smaller(apart, below.shared)),
+        shared: own.shared.min(apart.min(below.shared)),
         first,
         second,
     };
@@ -221,8 +223,8 @@ fn and_child(children: Weighed, w: Weighed) -> Weighed
     ensures { ChildOf children w result }
 {
     Weighed {
-        least: plus(children.least, w.least),
-        rows: plus(children.rows, w.rows),
+        least: children.least + w.least,
+        rows: children.rows + w.rows,
         next: w.next,
     }
 }
@@ -235,40 +237,11 @@ fn and_unseen(children: Weighed, costs: ByKind) -> Weighed
     and_child(children, as_leaf(costs, children.next))
 }
 
-fn plus(x: ByKind, y: ByKind) -> ByKind
-    requires { SumFits x y }
-    ensures { SumOf x y result }
+// What goes with the less of two losses; of two that are the same, with the first.
+fn of_less(x: u64, y: u64, of_x: u64, of_y: u64) -> u64
+    ensures { (result ≡ cond (leb x y) of_x of_y) × (result ≤ of_x + of_y) }
 {
-    ByKind {
-        shared: x.shared + y.shared,
-        first: x.first + y.first,
-        second: x.second + y.second,
-    }
-}
-
-// The members of a shared leaf, or of two separate leaves.
-fn leaf_rows(leaf: u64, apart: u64) -> u64
-    ensures { result ≡ cond (leb leaf apart) 1 2 }
-{
-    if leaf <= apart { 1 } else { 2 }
-}
-
-// The members of an own tree: itself, or those of its children.
-fn own_rows(leaf: u64, split: u64, below: u64) -> u64
-    ensures { (result ≡ cond (leb leaf split) 1 below) × (result ≤ 1 + below) }
-{
-    if leaf <= split { 1 } else { below }
-}
-
-// The members of both trees: of a shared leaf, of two separate trees, or of a split of both.
-fn joint_rows(leaf: u64, apart: u64, split: u64, both: u64, below: u64) -> u64
-    ensures { result ≡ cond (leb leaf (min apart split)) 1 (cond (leb apart split) both below) }
-{
-    let other = smaller(apart, split);
-    if leaf <= other {
-        return 1;
-    }
-    if apart <= split { both } else { below }
+    if x <= y { of_x } else { of_y }
 }
 
 // The decision at a leaf with these losses.
@@ -276,7 +249,7 @@ pub fn leaf_mark(own: ByKind) -> u8
     requires { Small own }
     ensures { result ≡ leaf_mark own }
 {
-    more(own.shared, own.first + own.second)
+    u8::from(own.shared > own.first + own.second)
 }
 
 // The decision at a context over children that lose this together.
@@ -284,30 +257,18 @@ fn split_mark(own: ByKind, below: ByKind) -> u8
     requires { Small own }
     ensures { result ≡ split_mark own below }
 {
-    let apart = smaller(own.first, below.first) + smaller(own.second, below.second);
+    let apart = own.first.min(below.first) + own.second.min(below.second);
     choice_of(own.shared, apart, below.shared)
-        + 3 * more(own.first, below.first)
-        + 6 * more(own.second, below.second)
+        + 3 * u8::from(own.first > below.first)
+        + 6 * u8::from(own.second > below.second)
 }
 
 // Of a shared leaf, two separate trees and a split of both, the first that loses least.
 fn choice_of(leaf: u64, apart: u64, split: u64) -> u8
     ensures { (result ≡ choice leaf apart split) × (result ≤ 2) }
 {
-    if leaf <= smaller(apart, split) {
+    if leaf <= apart.min(split) {
         return 0;
     }
     if apart <= split { 1 } else { 2 }
-}
-
-fn more(x: u64, y: u64) -> u8
-    ensures { (result ≡ one (not (leb x y))) × (result ≤ 1) }
-{
-    if x <= y { 0 } else { 1 }
-}
-
-fn smaller(x: u64, y: u64) -> u64
-    ensures { (result ≡ min x y) × (result ≤ x) }
-{
-    if x <= y { x } else { y }
 }
