@@ -4,6 +4,7 @@ pub mod Rising
 pub mod Finding
 pub mod Ranked
 pub mod Cells
+pub mod Reading
 pub mod Bumping
 pub mod Counting
 pub mod Keeping

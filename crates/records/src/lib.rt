@@ -8,6 +8,8 @@ ghost use Rattle.records.specs.Held.{held, record_at, count_table, Standing, Pla
 ghost use Rattle.records.specs.Fed.{Askable};
 ghost use Rattle.records.specs.Located.{Seeks, longer_key};
 
+use std::array;
+
 // How many numbers a record has.
 pub const WIDTH: usize = 24;
 
@@ -40,8 +42,8 @@ pub fn counts_at(numbers: &[u32], at: usize) -> [[u32; 8]; 2]
     requires { width * (at + 1) ≤ length numbers.now }
     ensures { result ≡ count_table (record_at at numbers.now) }
 {
-    let first = eight_at(numbers, WIDTH * at + 1);
-    let second = eight_at(numbers, WIDTH * at + (1 + COUNTS));
+    let first = numbers_at(numbers, WIDTH * at + 1);
+    let second = numbers_at(numbers, WIDTH * at + (1 + COUNTS));
     [first, second]
 }
 
@@ -71,20 +73,19 @@ pub fn seek(numbers: &[u32], n: usize, desk: u32, recent: &[u32]) -> Sought
     let mut places = [0usize; 7];
     let mut key = desk * DESK_SPAN;
     let mut eights = NEWEST;
-    let mut from: usize = 0;
-    let mut found: usize = 0;
-    while found <= recent.len() {
+    let mut from = 0;
+    let all = recent.len() + 1;
+    for found in 0..all {
         let at = place_from(numbers, n, from, key);
         places[found] = at;
         if !stands(numbers, n, at, key) {
             return Sought { found, places };
         }
         key = longer(key, eights, recent, found);
-        eights = eights / 8;
+        eights /= 8;
         from = at + 1;
-        found = found + 1;
     }
-    Sought { found, places }
+    Sought { found: all, places }
 }
 
 // The counts under a key: zeros where none of the first `n` records has it.
@@ -93,12 +94,11 @@ pub fn table_of(numbers: &[u32], n: usize, key: u32) -> [[u32; 8]; 2]
     ensures { result ≡ count_table (lookup key (records n numbers.now)) }
 {
     let at = place_of(numbers, n, key);
-    if at < n {
-        if numbers[WIDTH * at] == key {
-            return counts_at(numbers, at);
-        }
+    if at < n && numbers[WIDTH * at] == key {
+        counts_at(numbers, at)
+    } else {
+        [[0; 8]; 2]
     }
-    [[0u32; 8]; 2]
 }
 
 // Between which places a key stands, from a place on: by doubling the way.
@@ -141,10 +141,7 @@ pub fn stands(numbers: &[u32], n: usize, at: usize, key: u32) -> bool
     requires { Standing n numbers.now × Placed key n at numbers.now }
     ensures { result ≡ held key (records n numbers.now) }
 {
-    if at < n {
-        return numbers[WIDTH * at] == key;
-    }
-    false
+    at < n && numbers[WIDTH * at] == key
 }
 
 // The key of a context that is longer by the recent symbol at a place: that symbol at its power of eight, and 1 for the length. The same key where none is there.
@@ -152,25 +149,16 @@ pub fn longer(key: u32, eights: u32, recent: &[u32], place: usize) -> u32
     requires { place < length recent.now → key + (get_or recent.now place 0 * eights + 1) < 2 ^ 32 }
     ensures { result ≡ longer_key key eights recent.now place }
 {
-    if place < recent.len() {
-        return key + (recent[place] * eights + 1);
+    match recent.get(place) {
+        Some(&symbol) => key + (symbol * eights + 1),
+        None => key,
     }
-    key
 }
 
-// The eight numbers from a place on.
-pub fn eight_at(numbers: &[u32], at: usize) -> [u32; 8]
-    requires { at + most_symbols ≤ length numbers.now }
-    ensures { result ≡ take most_symbols (drop at numbers.now) }
+// The `N` numbers from a place on.
+pub fn numbers_at<const N: usize>(numbers: &[u32], at: usize) -> [u32; N]
+    requires { at + N ≤ length numbers.now }
+    ensures { result ≡ take N (drop at numbers.now) }
 {
-    [
-        numbers[at],
-        numbers[at + 1],
-        numbers[at + 2],
-        numbers[at + 3],
-        numbers[at + 4],
-        numbers[at + 5],
-        numbers[at + 6],
-        numbers[at + 7],
-    ]
+    array::from_fn(|i| numbers[at + i])
 }
