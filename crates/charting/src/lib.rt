@@ -14,7 +14,7 @@ ghost use Rattle.calls.specs.Refusals.{charted_of};
 ghost use Rattle.charting.specs.Naming.{named};
 ghost use Rattle.charting.specs.Reading.{Readable};
 
-use calls::{ChartAnswer, Refusal};
+use calls::Refusal;
 use chart::{Chart, chart_of};
 use numbers::DESKS;
 use records::{DESK_SPAN, table_of};
@@ -29,29 +29,29 @@ enum Named {
 }
 
 // What the samples at a desk say of a symbol in the context of that length and code.
-pub fn chart(store: &[u32], desk: u32, length: u32, code: u32, symbol: u32) -> ChartAnswer
+pub fn chart(store: &[u32], desk: u32, length: u32, code: u32, symbol: u32) -> Result<Chart, Refusal>
     ensures { Asks store.now (at_desk desk (asking (charting length code symbol))) (charted_of result) }
 {
     if !sound(store) {
-        return ChartAnswer::Refused(Refusal::Unsound);
+        return Err(Refusal::Unsound);
     }
     let at = desk as usize;
     if DESKS <= at {
-        return ChartAnswer::Refused(Refusal::NoSuchDesk);
+        return Err(Refusal::NoSuchDesk);
     }
     if field_at(store, at, OPEN) != 1 {
-        return ChartAnswer::Refused(Refusal::NotOpen);
+        return Err(Refusal::NotOpen);
     }
     let symbols = field_at(store, at, SYMBOLS);
     if symbols <= symbol {
-        return ChartAnswer::Refused(Refusal::NotOfSitting);
+        return Err(Refusal::NotOfSitting);
     }
     if field_at(store, at, DEPTH) < length {
-        return ChartAnswer::Refused(Refusal::NotOfSitting);
+        return Err(Refusal::NotOfSitting);
     }
     match key_of(symbols, desk, length, code) {
-        Named::Key(key) => ChartAnswer::Answered(chart_under(store, key, symbol)),
-        Named::NoContext => ChartAnswer::Refused(Refusal::NotOfSitting),
+        Named::Key(key) => Ok(chart_under(store, key, symbol)),
+        Named::NoContext => Err(Refusal::NotOfSitting),
     }
 }
 

@@ -12,7 +12,7 @@ ghost use Rattle.calls.specs.Refusals.{outcome_of, room_of};
 ghost use Rattle.calls.specs.Promises.{Moves, Asks};
 ghost use Rattle.changes.specs.Changes.{fresh_desk, Openable, Opened, Closed};
 
-use calls::{Refusal, RoomLeft, Verdict};
+use calls::Refusal;
 use numbers::{DEEPEST, DESKS, FEWEST_SYMBOLS, MOST_SYMBOLS, MOST_WEIGHT};
 use recording::remove_desk;
 use soundness::{reserved, sound};
@@ -29,23 +29,23 @@ pub fn open(
     depth: u32,
     weight: u32,
     reservation: u32,
-) -> Verdict
+) -> Result<(), Refusal>
     ensures { Moves store.old (at_desk desk (opening (naming alphabet depth weight reservation))) (outcome_of result) store.new }
 {
     if !sound(store) {
-        return Verdict::Refused(Refusal::Unsound);
+        return Err(Refusal::Unsound);
     }
     if DESKS <= desk as usize {
-        return Verdict::Refused(Refusal::NoSuchDesk);
+        return Err(Refusal::NoSuchDesk);
     }
     if field_at(store, desk as usize, OPEN) == 1 {
-        return Verdict::Refused(Refusal::AlreadyOpen);
+        return Err(Refusal::AlreadyOpen);
     }
     if outside_limits(alphabet, depth) {
-        return Verdict::Refused(Refusal::OutsideLimits);
+        return Err(Refusal::OutsideLimits);
     }
     if MOST_WEIGHT < weight {
-        return Verdict::Refused(Refusal::WeightOutside);
+        return Err(Refusal::WeightOutside);
     }
     open_reserving(store, desk, alphabet, depth, weight, reservation)
 }
@@ -58,50 +58,50 @@ fn open_reserving(
     depth: u32,
     weight: u32,
     reservation: u32,
-) -> Verdict
+) -> Result<(), Refusal>
     requires { Openable store.old desk (naming alphabet depth weight reservation) }
     ensures { Moves store.old (at_desk desk (opening (naming alphabet depth weight reservation))) (outcome_of result) store.new }
 {
     if reservation == 0 {
-        return Verdict::Refused(Refusal::BadReservation);
+        return Err(Refusal::BadReservation);
     }
     let room = store[ROOM];
     if room < reservation {
-        return Verdict::Refused(Refusal::BadReservation);
+        return Err(Refusal::BadReservation);
     }
     let free = left_in(store);
     if free < reservation {
-        return Verdict::Refused(Refusal::NoRoom);
+        return Err(Refusal::NoRoom);
     }
     set_up(store, desk as usize, alphabet, depth, weight, reservation);
-    Verdict::Done
+    Ok(())
 }
 
 // Closes a desk: its records are taken out, and the room that it reserved is free.
-pub fn close(store: &mut [u32], desk: u32) -> Verdict
+pub fn close(store: &mut [u32], desk: u32) -> Result<(), Refusal>
     ensures { Moves store.old (at_desk desk closing) (outcome_of result) store.new }
 {
     if !sound(store) {
-        return Verdict::Refused(Refusal::Unsound);
+        return Err(Refusal::Unsound);
     }
     if DESKS <= desk as usize {
-        return Verdict::Refused(Refusal::NoSuchDesk);
+        return Err(Refusal::NoSuchDesk);
     }
     if field_at(store, desk as usize, OPEN) != 1 {
-        return Verdict::Refused(Refusal::NotOpen);
+        return Err(Refusal::NotOpen);
     }
     shut(store, desk);
-    Verdict::Done
+    Ok(())
 }
 
 // How many contexts the room question finds left.
-pub fn room_left(store: &[u32]) -> RoomLeft
+pub fn room_left(store: &[u32]) -> Result<u32, Refusal>
     ensures { Asks store.now room_question (room_of result) }
 {
     if !sound(store) {
-        return RoomLeft::Refused(Refusal::Unsound);
+        return Err(Refusal::Unsound);
     }
-    RoomLeft::Contexts(left_in(store))
+    Ok(left_in(store))
 }
 
 // Whether an alphabet or a depth is outside its limits.

@@ -6,91 +6,91 @@ ghost use Rattle.contexts.specs.Sitting.{sample_of};
 ghost use Rattle.replay.specs.Machine.{at_desk, asking};
 ghost use Rattle.store.specs.Sound.{soundb};
 ghost use Rattle.rules.specs.Rules.{feed};
-ghost use Rattle.calls.specs.Refusals.{outcome_of, ending_of};
+ghost use Rattle.calls.specs.Refusals.{outcome_of};
 ghost use Rattle.calls.specs.Promises.{Moves};
 ghost use Rattle.changes.specs.FedStore.{Judged, recent_at, is_counted};
 ghost use Rattle.calls.specs.Run.{Runs};
 
-use calls::{Ending, Fed, Refusal, Verdict};
+use calls::{Fed, Refusal};
 use entering::{is_counted, is_past, recent_of, seek_in, write_feed, write_header};
 use numbers::{DESKS, LONGEST};
 use soundness::sound;
 use store::layout::{OPEN, SIZE_FIRST, SYMBOLS, field_at};
 
 // One more symbol of a sample at a desk.
-pub fn feed(store: &mut [u32], desk: u32, sample: u32, symbol: u32) -> Verdict
+pub fn feed(store: &mut [u32], desk: u32, sample: u32, symbol: u32) -> Result<(), Refusal>
     ensures { Moves store.old (at_desk desk (asking (feed sample symbol))) (outcome_of result) store.new }
 {
     if sound(store) {
         return feed_sound(store, desk, sample, symbol);
     }
-    Verdict::Refused(Refusal::Unsound)
+    Err(Refusal::Unsound)
 }
 
 // A run of feeds to one sample, after one soundness test: it stops at the first that is refused.
 pub fn feed_all(store: &mut [u32], desk: u32, sample: u32, symbols: &[u8]) -> Fed
-    ensures { Runs store.old desk sample symbols.now result.accepted (ending_of result.ending) store.new }
+    ensures { Runs store.old desk sample symbols.now result.accepted (outcome_of result.ending) store.new }
 {
     if sound(store) {
         return feed_run(store, desk, sample, symbols);
     }
     Fed {
         accepted: 0,
-        ending: Ending::Refused(Refusal::Unsound),
+        ending: Err(Refusal::Unsound),
     }
 }
 
 // The run at a store that has passed its test.
 fn feed_run(store: &mut [u32], desk: u32, sample: u32, symbols: &[u8]) -> Fed
     requires { soundb store.old ≡ true }
-    ensures { Runs store.old desk sample symbols.now result.accepted (ending_of result.ending) store.new }
+    ensures { Runs store.old desk sample symbols.now result.accepted (outcome_of result.ending) store.new }
 {
     let mut done: usize = 0;
     while done < symbols.len() {
         match feed_sound(store, desk, sample, symbols[done] as u32) {
-            Verdict::Done => {
+            Ok(()) => {
                 done = done + 1;
             }
-            Verdict::Refused(why) => {
+            Err(why) => {
                 return Fed {
                     accepted: done,
-                    ending: Ending::Refused(why),
+                    ending: Err(why),
                 };
             }
         }
     }
     Fed {
         accepted: done,
-        ending: Ending::Whole,
+        ending: Ok(()),
     }
 }
 
 // One feed at a store that has passed its test: the refusals in the table's order.
-fn feed_sound(store: &mut [u32], desk: u32, sample: u32, symbol: u32) -> Verdict
+fn feed_sound(store: &mut [u32], desk: u32, sample: u32, symbol: u32) -> Result<(), Refusal>
     requires { soundb store.old ≡ true }
     ensures { Moves store.old (at_desk desk (asking (feed sample symbol))) (outcome_of result) store.new }
 {
     let d = desk as usize;
     if DESKS <= d {
-        return Verdict::Refused(Refusal::NoSuchDesk);
+        return Err(Refusal::NoSuchDesk);
     }
     if field_at(store, d, OPEN) != 1 {
-        return Verdict::Refused(Refusal::NotOpen);
+        return Err(Refusal::NotOpen);
     }
     if 1 < sample {
-        return Verdict::Refused(Refusal::NotOfSitting);
+        return Err(Refusal::NotOfSitting);
     }
     if field_at(store, d, SYMBOLS) <= symbol {
-        return Verdict::Refused(Refusal::NotOfSitting);
+        return Err(Refusal::NotOfSitting);
     }
     if LONGEST <= field_at(store, d, SIZE_FIRST + sample as usize) {
-        return Verdict::Refused(Refusal::SampleFull);
+        return Err(Refusal::SampleFull);
     }
     feed_judged(store, desk, sample, symbol)
 }
 
 // What the other refusals left of a feed: where its place is not counted, the header alone is written.
-fn feed_judged(store: &mut [u32], desk: u32, sample: u32, symbol: u32) -> Verdict
+fn feed_judged(store: &mut [u32], desk: u32, sample: u32, symbol: u32) -> Result<(), Refusal>
     requires { Judged store.old desk sample symbol }
     ensures { Moves store.old (at_desk desk (asking (feed sample symbol))) (outcome_of result) store.new }
 {
@@ -98,11 +98,11 @@ fn feed_judged(store: &mut [u32], desk: u32, sample: u32, symbol: u32) -> Verdic
         return feed_counted(store, desk, sample, symbol);
     }
     write_header(store, desk, sample, symbol);
-    Verdict::Done
+    Ok(())
 }
 
 // A feed that is counted, after the symbols that it follows are copied.
-fn feed_counted(store: &mut [u32], desk: u32, sample: u32, symbol: u32) -> Verdict
+fn feed_counted(store: &mut [u32], desk: u32, sample: u32, symbol: u32) -> Result<(), Refusal>
     requires { Judged store.old desk sample symbol × (is_counted store.old desk (sample_of sample) ≡ true) }
     ensures { Moves store.old (at_desk desk (asking (feed sample symbol))) (outcome_of result) store.new }
 {
@@ -113,14 +113,14 @@ fn feed_counted(store: &mut [u32], desk: u32, sample: u32, symbol: u32) -> Verdi
 }
 
 // Refusal 10, or the feed of a symbol that follows `recent` and is counted.
-fn feed_after(store: &mut [u32], desk: u32, sample: u32, symbol: u32, recent: &[u32]) -> Verdict
+fn feed_after(store: &mut [u32], desk: u32, sample: u32, symbol: u32, recent: &[u32]) -> Result<(), Refusal>
     requires { Judged store.old desk sample symbol × (recent.now ≡ recent_at store.old desk (sample_of sample)) × (is_counted store.old desk (sample_of sample) ≡ true) }
     ensures { Moves store.old (at_desk desk (asking (feed sample symbol))) (outcome_of result) store.new }
 {
     let sought = seek_in(store, desk, recent);
     if is_past(store, desk, recent, sought) {
-        return Verdict::Refused(Refusal::PastReservation);
+        return Err(Refusal::PastReservation);
     }
     write_feed(store, desk, sample, symbol, recent, sought);
-    Verdict::Done
+    Ok(())
 }

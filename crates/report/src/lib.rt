@@ -11,7 +11,7 @@ ghost use Rattle.calls.specs.Promises.{with_rows, Reports};
 ghost use Rattle.rows.specs.Rows as rows;
 ghost use Rattle.report.specs.Desk.{desk_in, CanReportOn, WeighedDesk, DecidedDesk};
 
-use calls::{Refusal, ReportAnswer};
+use calls::{Refusal, Reported};
 use numbers::{DESKS, MOST_ROOM, ROW_WIDTH};
 use store::layout::{
     DEPTH, HEADER, OPEN, SIZE_FIRST, SIZE_SECOND, SYMBOLS, USED, WEIGHT, field_at,
@@ -19,40 +19,40 @@ use store::layout::{
 use weighing::{Desk, Least};
 
 // Writes a desk's report on the sheet, from row `place` on.
-pub fn report(store: &[u32], desk: u32, sheet: &mut [u32], place: u32) -> ReportAnswer
+pub fn report(store: &[u32], desk: u32, sheet: &mut [u32], place: u32) -> Result<Reported, Refusal>
     ensures { Reports store.now desk place (written_of result place sheet.new) sheet.old sheet.new }
 {
     if !soundness::sound(store) {
-        return ReportAnswer::Refused(Refusal::Unsound);
+        return Err(Refusal::Unsound);
     }
     let d = desk as usize;
     if DESKS <= d {
-        return ReportAnswer::Refused(Refusal::NoSuchDesk);
+        return Err(Refusal::NoSuchDesk);
     }
     if field_at(store, d, OPEN) != 1 {
-        return ReportAnswer::Refused(Refusal::NotOpen);
+        return Err(Refusal::NotOpen);
     }
     let at = desk_in(store, desk);
     let n = at.n;
     let m = at.m;
     if n == 0 {
-        return ReportAnswer::Refused(Refusal::SampleEmpty);
+        return Err(Refusal::SampleEmpty);
     }
     if m == 0 {
-        return ReportAnswer::Refused(Refusal::SampleEmpty);
+        return Err(Refusal::SampleEmpty);
     }
     let depth = at.depth;
     if n <= depth {
-        return ReportAnswer::Refused(Refusal::SampleShort);
+        return Err(Refusal::SampleShort);
     }
     if m <= depth {
-        return ReportAnswer::Refused(Refusal::SampleShort);
+        return Err(Refusal::SampleShort);
     }
     report_on(store, at, sheet, place)
 }
 
 // The report on an open desk both of whose samples have more symbols than its depth. What logarithms are read from is put here once, and lent to all below.
-fn report_on(store: &[u32], desk: Desk, sheet: &mut [u32], place: u32) -> ReportAnswer
+fn report_on(store: &[u32], desk: Desk, sheet: &mut [u32], place: u32) -> Result<Reported, Refusal>
     requires { CanReportOn store.now desk }
     ensures { Reports store.now desk.number place (written_of result place sheet.new) sheet.old sheet.new }
 {
@@ -61,10 +61,13 @@ fn report_on(store: &[u32], desk: Desk, sheet: &mut [u32], place: u32) -> Report
     let least = weighed(&logs, store, desk, &mut kept);
     let whole = sheet.len() / ROW_WIDTH;
     if whole < place as usize + least.rows as usize {
-        return ReportAnswer::Refused(Refusal::SheetShort);
+        return Err(Refusal::SheetShort);
     }
     write(&logs, store, desk, &kept, sheet, place);
-    ReportAnswer::Rows(least.rows as u32, score_of(least.joint))
+    Ok(Reported {
+        rows: least.rows as u32,
+        score: score_of(least.joint),
+    })
 }
 
 // The score is the loss with a minus sign.

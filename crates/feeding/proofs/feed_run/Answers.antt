@@ -4,8 +4,8 @@ use native.Mathlib.Omega.{arith}
 use borrow.Author.Rules.{rules}
 use mathlib.Core.Path.{◌≡◌, subst, ◌∙◌}
 use lib.ListN.{length, get_or}
-use Rattle.calls.specs.declared.Verdict.{Verdict}
-use Rattle.calls.specs.declared.Verdict.TheVariants.{Done, Refused}
+use Rattle.calls.specs.declared.Refusal.{Refusal}
+use Rattle.std.specs.Prelude.{Result, Ok, Err}
 use Rattle.calls.specs.Refusals.{refusal_number, outcome_of}
 use Rattle.calls.specs.Promises.{Moves}
 use Rattle.calls.specs.Run.{feeding}
@@ -25,21 +25,21 @@ loop-done-preserved c =
     let x = c.args in
     let at = c.loop-done in
     let fed = c.feed_sound in
-    let told : fed.result ≡ Done = c.in-Done.is in
-    ran_on x.store.now x.desk x.sample x.symbols.now at.store at.done at.invariant fed.new.store (omega arith) (subst (λ (v : Verdict). Moves at.store (feeding x.desk x.sample (get_or x.symbols.now at.done 0)) (outcome_of v) fed.new.store) told fed.ensures)
+    let told : fed.result ≡ Ok tt = c.in-Ok.is in
+    ran_on x.store.now x.desk x.sample x.symbols.now at.store at.done at.invariant fed.new.store (omega arith) (subst (λ (v : Result (Unit {0}) Refusal). Moves at.store (feeding x.desk x.sample (get_or x.symbols.now at.done 0)) (outcome_of v) fed.new.store) told fed.ensures)
 
-pub shape_of-store-in-Refused : goal.shape_of-store-in-Refused
-shape_of-store-in-Refused c = c.feed_sound.ensures.length_stays ∙ c.loop-done.invariant.long
+pub shape_of-store-in-Err : goal.shape_of-store-in-Err
+shape_of-store-in-Err c = c.feed_sound.ensures.length_stays ∙ c.loop-done.invariant.long
 
-pub returns-in-Refused : goal.returns-in-Refused
-returns-in-Refused c =
+pub returns-in-Err : goal.returns-in-Err
+returns-in-Err c =
     let x = c.args in
     let at = c.loop-done in
     let fed = c.feed_sound in
-    let why = c.in-Refused.why in
-    let told : fed.result ≡ Refused why = c.in-Refused.is in
+    let why = c.in-Err.why in
+    let told : fed.result ≡ Err why = c.in-Err.is in
     ran_refused x.store.now x.desk x.sample x.symbols.now at.store at.done at.invariant fed.new.store (refusal_number why) c.requires (omega arith)
-    (subst (λ (v : Verdict). Moves at.store (feeding x.desk x.sample (get_or x.symbols.now at.done 0)) (outcome_of v) fed.new.store) told fed.ensures)
+    (subst (λ (v : Result (Unit {0}) Refusal). Moves at.store (feeding x.desk x.sample (get_or x.symbols.now at.done 0)) (outcome_of v) fed.new.store) told fed.ensures)
 
 pub shape_of-store : goal.shape_of-store
 shape_of-store c = c.loop-done.invariant.long

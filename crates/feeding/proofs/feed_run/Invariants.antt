@@ -3,8 +3,8 @@ use Prim.Native.Nat.{◌-◌}
 use native.Mathlib.Omega.{arith}
 use mathlib.Core.Path.{◌≡◌, subst, ◌∙◌}
 use lib.ListN.{length, get_or}
-use Rattle.calls.specs.declared.Verdict.{Verdict}
-use Rattle.calls.specs.declared.Verdict.TheVariants.{Done, Refused}
+use Rattle.calls.specs.declared.Refusal.{Refusal}
+use Rattle.std.specs.Prelude.{Result, Ok, Err}
 use Rattle.calls.specs.Refusals.{refusal_number, outcome_of}
 use Rattle.calls.specs.Promises.{Moves}
 use Rattle.calls.specs.Run.{feeding}
