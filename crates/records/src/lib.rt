@@ -3,6 +3,7 @@
 
 ghost use Rattle.std.specs.Prelude.{◌≡◌, ◌+◌, ◌*◌, ◌^◌, ◌≤◌, ◌<◌, length, take, drop, get_or};
 ghost use Rattle.numbers.specs.Limits.{most_symbols};
+ghost use Rattle.contexts.specs.Keys.{eights};
 ghost use Rattle.records.specs.Records.{width, records, lookup};
 ghost use Rattle.records.specs.Held.{held, record_at, count_table, Standing, Placed, Bounded, Onward};
 ghost use Rattle.records.specs.Fed.{Askable};
@@ -153,6 +154,15 @@ pub fn longer(key: u32, eights: u32, recent: &[u32], place: usize) -> u32
         Some(&symbol) => key + (symbol * eights + 1),
         None => key,
     }
+}
+
+// The power of eight at which the oldest of `len` symbols stands in a key: by a shift, which is faster than a table.
+pub fn eights_of(len: u32) -> u32
+    requires { len < 8 }
+    ensures power { result ≡ eights len }
+    ensures positive { 0 < result }
+{
+    1u32 << (21 - 3 * len)
 }
 
 // The `N` numbers from a place on.
