@@ -3,7 +3,6 @@ pub mod Feeds
 pub mod Both
 pub mod Asking
 pub mod Judging
-pub mod Telling
 pub mod Seating
 pub mod Settled
 pub mod Texts

@@ -1,5 +1,5 @@
 // The answers as lines on standard output.
-use calls::{ChartAnswer, Ending, Fed, Refusal, RoomLeft, Verdict, number_of};
+use calls::{Fed, Refusal};
 use chart::Chart;
 use printing::magnitude;
 
@@ -27,24 +27,24 @@ pub(crate) fn say_refused(rt: &impl Print, number: u32) {
 }
 
 pub(crate) fn say_refusal(rt: &impl Print, why: Refusal) {
-    say_refused(rt, number_of(why));
+    say_refused(rt, u32::from(why));
 }
 
-pub(crate) fn say_verdict(rt: &impl Print, verdict: Verdict) {
+pub(crate) fn say_verdict(rt: &impl Print, verdict: Result<(), Refusal>) {
     match verdict {
-        Verdict::Done => say(rt, b"done\n"),
-        Verdict::Refused(why) => say_refusal(rt, why),
+        Ok(()) => say(rt, b"done\n"),
+        Err(why) => say_refusal(rt, why),
     }
 }
 
-pub(crate) fn say_room(rt: &impl Print, room: RoomLeft) {
+pub(crate) fn say_room(rt: &impl Print, room: Result<u32, Refusal>) {
     match room {
-        RoomLeft::Contexts(left) => {
+        Ok(left) => {
             say(rt, b"room ");
             say_number(rt, left as u64);
             say(rt, b"\n");
         }
-        RoomLeft::Refused(why) => say_refusal(rt, why),
+        Err(why) => say_refusal(rt, why),
     }
 }
 
@@ -53,18 +53,18 @@ pub(crate) fn say_fed(rt: &impl Print, fed: Fed) {
     say_number(rt, fed.accepted as u64);
     let ending = fed.ending;
     match ending {
-        Ending::Whole => say(rt, b" whole\n"),
-        Ending::Refused(why) => {
+        Ok(()) => say(rt, b" whole\n"),
+        Err(why) => {
             say(rt, b" ");
             say_refusal(rt, why);
         }
     }
 }
 
-pub(crate) fn say_chart(rt: &impl Print, answer: ChartAnswer) {
+pub(crate) fn say_chart(rt: &impl Print, answer: Result<Chart, Refusal>) {
     match answer {
-        ChartAnswer::Answered(chart) => say_charted(rt, chart),
-        ChartAnswer::Refused(why) => say_refusal(rt, why),
+        Ok(chart) => say_charted(rt, chart),
+        Err(why) => say_refusal(rt, why),
     }
 }
 

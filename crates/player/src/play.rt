@@ -2,12 +2,12 @@
 use crate::answers::{say, say_chart, say_fed, say_refused, say_room, say_verdict};
 use crate::scan::{first_digit, number_at, symbols_at, within};
 use crate::sheet::play_report;
-use calls::{Ending, Fed};
+use calls::Fed;
 use charting::chart;
 use desks::{close, open, room_left};
 use feeding::{feed, feed_all};
 use std::cmp::min;
-use store::{Made, make};
+use store::make;
 
 // Where the script goes on, and how many numbers its next calls lend.
 #[derive(Clone, Copy)]
@@ -95,16 +95,12 @@ fn play_make(rt: &impl Print, script: &[u8], at: usize, store: &mut [u32], lent:
     let next = length.next;
     let many = within(length.value as usize, store);
     match make(&mut store[..many], room.value) {
-        Made::Done => {
+        Ok(()) => {
             say(rt, b"done\n");
             Step { next, lent: many }
         }
-        Made::RoomOutside => {
-            say_refused(rt, 17);
-            Step { next, lent }
-        }
-        Made::StoreShort => {
-            say_refused(rt, 18);
+        Err(why) => {
+            say_refused(rt, u32::from(why));
             Step { next, lent }
         }
     }
@@ -205,7 +201,7 @@ fn feed_run(
             rt,
             Fed {
                 accepted: 0,
-                ending: Ending::Whole,
+                ending: Ok(()),
             },
         );
         return next;

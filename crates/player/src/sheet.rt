@@ -3,7 +3,6 @@ ghost use Rattle.std.specs.Prelude.{◌≤◌};
 
 use crate::answers::{say, say_number, say_refusal, say_score};
 use crate::scan::{number_at, within};
-use calls::ReportAnswer;
 use numbers::ROW_WIDTH;
 use report::report;
 
@@ -45,16 +44,17 @@ fn report_on_part(
 
 fn report_on(rt: &impl Print, store: &[u32], desk: u32, sheet: &mut [u32], place: u32) {
     match report(store, desk, sheet, place) {
-        ReportAnswer::Rows(rows, score) => {
+        Ok(reported) => {
+            let rows = reported.rows;
             say(rt, b"report ");
             say_number(rt, rows as u64);
             say(rt, b" ");
-            say_score(rt, score);
+            say_score(rt, reported.score);
             say(rt, b"\n");
             say_rows(rt, sheet, place as usize, rows as usize);
             say_outside(rt, sheet, place as usize, rows as usize);
         }
-        ReportAnswer::Refused(why) => {
+        Err(why) => {
             say_refusal(rt, why);
             say_outside(rt, sheet, 0, 0);
         }
