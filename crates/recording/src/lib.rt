@@ -5,13 +5,14 @@ ghost use Rattle.std.specs.Prelude.{◌≡◌, ◌++◌, ◌+◌, ◌-◌, ◌*�
 ghost use Rattle.numbers.specs.Limits.{most_symbols, longest};
 ghost use Rattle.contexts.specs.Sitting.{sample_of};
 ghost use Rattle.records.specs.Records.{width, records, blank};
+ghost use Rattle.records.specs.Samples.{number_of};
 ghost use Rattle.records.specs.Held.{without, Removable};
 ghost use Rattle.records.specs.Bumped.{raised, Cell, Written};
 ghost use Rattle.records.specs.Fed.{fed, fresh};
 ghost use Rattle.records.specs.Located.{Ready, Insertable, Inserted, Appended};
 ghost use Rattle.recording.specs.Counted.{raised_each, Raisable, with_missing, Growable};
 
-use records::{COUNTS, DESK_SPAN, NEWEST, Sought, WIDTH, longer, place_of};
+use records::{COUNTS, DESK_SPAN, NEWEST, Sample, Sought, WIDTH, longer, place_of};
 
 // Takes a desk's records out of the first `n`. Gives the number of records then.
 pub fn remove_desk(numbers: &mut [u32], n: usize, desk: u32) -> usize
@@ -35,15 +36,15 @@ pub fn feed_records(
     numbers: &mut [u32],
     n: usize,
     desk: u32,
-    sample: u32,
+    sample: Sample,
     symbol: u32,
     recent: &[u32],
     sought: Sought,
 ) -> usize
-    requires { Ready desk sample symbol recent.now n numbers.old sought.found sought.places }
-    ensures { Written (fed desk (sample_of sample) symbol recent.now (records n numbers.old)) result numbers.old numbers.new }
+    requires { Ready desk (number_of sample) symbol recent.now n numbers.old sought.found sought.places }
+    ensures { Written (fed desk (sample_of (number_of sample)) symbol recent.now (records n numbers.old)) result numbers.old numbers.new }
 {
-    let cell = 1 + (COUNTS * sample as usize + symbol as usize);
+    let cell = 1 + (COUNTS * sample.index() + symbol as usize);
     raise_held(numbers, cell, sought);
     let found = sought.found;
     if recent.len() < found {

@@ -11,3 +11,4 @@ pub mod Keeping
 pub mod KeyWalk
 pub mod Seeking
 pub mod Settled
+pub mod Samples

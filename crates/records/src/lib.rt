@@ -7,6 +7,7 @@ ghost use Rattle.contexts.specs.Keys.{eights};
 ghost use Rattle.records.specs.Records.{width, records, lookup};
 ghost use Rattle.records.specs.Held.{held, record_at, count_table, Standing, Placed, Bounded, Onward};
 ghost use Rattle.records.specs.Fed.{Askable};
+ghost use Rattle.records.specs.Samples.{number_of, Names};
 ghost use Rattle.records.specs.Located.{Seeks, longer_key};
 
 use std::array;
@@ -22,6 +23,43 @@ pub const DESK_SPAN: u32 = 2097152;
 
 // The power of eight at which the most recent symbol stands in a key; each older one stands at an eighth of the one before.
 pub const NEWEST: u32 = 262144;
+
+// One of a sitting's two samples.
+#[derive(Clone, Copy, Debug, PartialEq, Eq)]
+pub enum Sample {
+    First,
+    Second,
+}
+
+// A number that names no sample.
+#[derive(Clone, Copy, Debug, PartialEq, Eq)]
+pub struct NoSample(pub u32);
+
+impl TryFrom<u32> for Sample {
+    type Error = NoSample;
+
+    ghost try_from_gives = { Names };
+
+    fn try_from(number: u32) -> Result<Self, NoSample> {
+        match number {
+            0 => Ok(Sample::First),
+            1 => Ok(Sample::Second),
+            _ => Err(NoSample(number)),
+        }
+    }
+}
+
+impl Sample {
+    // Its number, by which what is the first's stands before what is the second's.
+    pub fn index(self) -> usize
+        ensures { result ≡ number_of self }
+    {
+        match self {
+            Sample::First => 0,
+            Sample::Second => 1,
+        }
+    }
+}
 
 // Where the contexts that a symbol follows stand: how many of them are held, and their places. Where one is not held, its place comes after those.
 // The other places are 0.
