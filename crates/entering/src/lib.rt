@@ -6,6 +6,7 @@ ghost use Rattle.std.specs.Prelude.{◌≡◌, true, false, ◌+◌, ◌-◌, �
 ghost use Rattle.numbers.specs.Limits.{deepest, longest, desks};
 ghost use Rattle.contexts.specs.Sitting.{sample_of};
 ghost use Rattle.records.specs.Records.{records};
+ghost use Rattle.records.specs.Samples.{number_of};
 ghost use Rattle.records.specs.Held.{keep, of_desk};
 ghost use Rattle.records.specs.Fed.{Askable};
 ghost use Rattle.records.specs.Located.{Located, Seeks};
@@ -17,7 +18,7 @@ ghost use Rattle.entering.specs.Seeking.{Found, Spanned};
 ghost use Rattle.changes.specs.Noted.{noted, Places};
 
 use recording::feed_records;
-use records::{DESK_SPAN, Sought, place_from, seek};
+use records::{DESK_SPAN, Sample, Sought, numbers_at, place_from, seek};
 use store::layout::{
     DEPTH, DESK_SIZE, FIRST_DESK, HEADER, RECENT_FIRST, RESERVE, SIZE_FIRST, SLOTS, USED, field_at,
 };
@@ -30,45 +31,26 @@ pub struct Latest {
 }
 
 // Whether the next symbol of a sample is counted: only a place with at least D symbols before it is.
-pub fn is_counted(store: &[u32], desk: u32, sample: u32) -> bool
-    requires { (soundb store.now ≡ true) × Open store.now desk × (sample ≤ 1) }
-    ensures { result ≡ is_counted store.now desk (sample_of sample) }
+pub fn is_counted(store: &[u32], desk: u32, sample: Sample) -> bool
+    requires { (soundb store.now ≡ true) × Open store.now desk }
+    ensures { result ≡ is_counted store.now desk (sample_of (number_of sample)) }
 {
     let d = desk as usize;
-    let i = sample as usize;
-    let size = field_at(store, d, SIZE_FIRST + i);
+    let size = field_at(store, d, SIZE_FIRST + sample.index());
     let depth = field_at(store, d, DEPTH);
     depth <= size
 }
 
 // Copies the six places of a sample's recent symbols. Where the next symbol is counted, it follows the first D of them.
-pub fn recent_of(store: &[u32], desk: u32, sample: u32) -> Latest
-    requires { (soundb store.now ≡ true) × Open store.now desk × (sample ≤ 1) }
-    ensures { (result.many ≡ depth_at store.now desk) × (result.symbols ≡ slots_at store.now desk (sample_of sample)) }
+pub fn recent_of(store: &[u32], desk: u32, sample: Sample) -> Latest
+    requires { (soundb store.now ≡ true) × Open store.now desk }
+    ensures { (result.many ≡ depth_at store.now desk) × (result.symbols ≡ slots_at store.now desk (sample_of (number_of sample))) }
 {
     let d = desk as usize;
-    let i = sample as usize;
     let many = field_at(store, d, DEPTH) as usize;
-    let symbols = six_from(
-        store,
-        FIRST_DESK + DESK_SIZE * d + (RECENT_FIRST + SLOTS * i),
-    );
+    let from = FIRST_DESK + DESK_SIZE * d + (RECENT_FIRST + SLOTS * sample.index());
+    let symbols = numbers_at(store, from);
     Latest { symbols, many }
-}
-
-// The six recent symbols from a place on.
-fn six_from(store: &[u32], at: usize) -> [u32; 6]
-    requires { at + deepest ≤ length store.now }
-    ensures { result ≡ take deepest (drop at store.now) }
-{
-    [
-        store[at],
-        store[at + 1],
-        store[at + 2],
-        store[at + 3],
-        store[at + 4],
-        store[at + 5],
-    ]
 }
 
 // Where the contexts of a symbol that follows `recent` stand among the store's records.
@@ -110,13 +92,13 @@ fn held_by(numbers: &[u32], n: usize, desk: u32, first: usize, from: usize) -> u
 pub fn write_feed(
     store: &mut [u32],
     desk: u32,
-    sample: u32,
+    sample: Sample,
     symbol: u32,
     recent: &[u32],
     sought: Sought,
 )
-    requires { Acceptable store.old desk (sample_of sample) symbol × (sample ≤ 1) × (recent.now ≡ recent_at store.old desk (sample_of sample)) × Located desk recent.now (records_in store.old) sought.found sought.places × (is_counted store.old desk (sample_of sample) ≡ true) }
-    ensures { FedStore store.old store.new desk (sample_of sample) symbol }
+    requires { Acceptable store.old desk (sample_of (number_of sample)) symbol × (recent.now ≡ recent_at store.old desk (sample_of (number_of sample))) × Located desk recent.now (records_in store.old) sought.found sought.places × (is_counted store.old desk (sample_of (number_of sample)) ≡ true) }
+    ensures { FedStore store.old store.new desk (sample_of (number_of sample)) symbol }
 {
     let many = store[USED] as usize;
     let body = &mut store[HEADER..];
@@ -125,21 +107,21 @@ pub fn write_feed(
 }
 
 // Writes an accepted feed that is not counted: the header alone.
-pub fn write_header(store: &mut [u32], desk: u32, sample: u32, symbol: u32)
-    requires { Acceptable store.old desk (sample_of sample) symbol × (sample ≤ 1) × (is_counted store.old desk (sample_of sample) ≡ false) }
-    ensures { FedStore store.old store.new desk (sample_of sample) symbol }
+pub fn write_header(store: &mut [u32], desk: u32, sample: Sample, symbol: u32)
+    requires { Acceptable store.old desk (sample_of (number_of sample)) symbol × (is_counted store.old desk (sample_of (number_of sample)) ≡ false) }
+    ensures { FedStore store.old store.new desk (sample_of (number_of sample)) symbol }
 {
     let many = store[USED];
     note_at(store, desk, sample, symbol, many);
 }
 
 // Notes a feed at a desk, in the places of its sample.
-fn note_at(store: &mut [u32], desk: u32, sample: u32, symbol: u32, used: u32)
-    requires { (desk < desks) × (sample ≤ 1) × (header_size ≤ length store.old) × (size_at store.old desk (sample_of sample) < longest) }
-    ensures { store.new ≡ noted used (desk_start desk + size_field (sample_of sample)) (desk_start desk + recent_field (sample_of sample)) symbol store.old }
+fn note_at(store: &mut [u32], desk: u32, sample: Sample, symbol: u32, used: u32)
+    requires { (desk < desks) × (header_size ≤ length store.old) × (size_at store.old desk (sample_of (number_of sample)) < longest) }
+    ensures { store.new ≡ noted used (desk_start desk + size_field (sample_of (number_of sample))) (desk_start desk + recent_field (sample_of (number_of sample))) symbol store.old }
 {
     let start = FIRST_DESK + DESK_SIZE * desk as usize;
-    let i = sample as usize;
+    let i = sample.index();
     let size = start + (SIZE_FIRST + i);
     let slots = start + (RECENT_FIRST + SLOTS * i);
     note(store, used, size, slots, symbol);
@@ -151,7 +133,7 @@ fn note(store: &mut [u32], used: u32, size: usize, slots: usize, symbol: u32)
     ensures { store.new ≡ noted used size slots symbol store.old }
 {
     store[USED] = used;
-    store[size] = store[size] + 1;
+    store[size] += 1;
     let end = slots + SLOTS;
     move_on(&mut store[slots..end], symbol);
 }
@@ -161,10 +143,6 @@ fn move_on(slots: &mut [u32], symbol: u32)
     requires { length slots.old ≡ deepest }
     ensures { slots.new ≡ shifted symbol slots.old }
 {
-    slots[5] = slots[4];
-    slots[4] = slots[3];
-    slots[3] = slots[2];
-    slots[2] = slots[1];
-    slots[1] = slots[0];
+    slots.copy_within(..SLOTS - 1, 1);
     slots[0] = symbol;
 }

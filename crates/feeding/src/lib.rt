@@ -3,6 +3,7 @@
 
 ghost use Rattle.std.specs.Prelude.{◌≡◌, true};
 ghost use Rattle.contexts.specs.Sitting.{sample_of};
+ghost use Rattle.records.specs.Samples.{number_of};
 ghost use Rattle.replay.specs.Machine.{at_desk, asking};
 ghost use Rattle.store.specs.Sound.{soundb};
 ghost use Rattle.rules.specs.Rules.{feed};
@@ -14,6 +15,7 @@ ghost use Rattle.calls.specs.Run.{Runs};
 use calls::{Fed, Refusal};
 use entering::{is_counted, is_past, recent_of, seek_in, write_feed, write_header};
 use numbers::{DESKS, LONGEST};
+use records::Sample;
 use soundness::sound;
 use store::layout::{OPEN, SIZE_FIRST, SYMBOLS, field_at};
 
@@ -77,22 +79,22 @@ fn feed_sound(store: &mut [u32], desk: u32, sample: u32, symbol: u32) -> Result<
     if field_at(store, d, OPEN) != 1 {
         return Err(Refusal::NotOpen);
     }
-    if 1 < sample {
+    let Ok(which) = Sample::try_from(sample) else {
         return Err(Refusal::NotOfSitting);
-    }
+    };
     if field_at(store, d, SYMBOLS) <= symbol {
         return Err(Refusal::NotOfSitting);
     }
-    if LONGEST <= field_at(store, d, SIZE_FIRST + sample as usize) {
+    if LONGEST <= field_at(store, d, SIZE_FIRST + which.index()) {
         return Err(Refusal::SampleFull);
     }
-    feed_judged(store, desk, sample, symbol)
+    feed_judged(store, desk, which, symbol)
 }
 
 // What the other refusals left of a feed: where its place is not counted, the header alone is written.
-fn feed_judged(store: &mut [u32], desk: u32, sample: u32, symbol: u32) -> Result<(), Refusal>
-    requires { Judged store.old desk sample symbol }
-    ensures { Moves store.old (at_desk desk (asking (feed sample symbol))) (outcome_of result) store.new }
+fn feed_judged(store: &mut [u32], desk: u32, sample: Sample, symbol: u32) -> Result<(), Refusal>
+    requires { Judged store.old desk (number_of sample) symbol }
+    ensures { Moves store.old (at_desk desk (asking (feed (number_of sample) symbol))) (outcome_of result) store.new }
 {
     if is_counted(store, desk, sample) {
         return feed_counted(store, desk, sample, symbol);
@@ -102,9 +104,9 @@ fn feed_judged(store: &mut [u32], desk: u32, sample: u32, symbol: u32) -> Result
 }
 
 // A feed that is counted, after the symbols that it follows are copied.
-fn feed_counted(store: &mut [u32], desk: u32, sample: u32, symbol: u32) -> Result<(), Refusal>
-    requires { Judged store.old desk sample symbol × (is_counted store.old desk (sample_of sample) ≡ true) }
-    ensures { Moves store.old (at_desk desk (asking (feed sample symbol))) (outcome_of result) store.new }
+fn feed_counted(store: &mut [u32], desk: u32, sample: Sample, symbol: u32) -> Result<(), Refusal>
+    requires { Judged store.old desk (number_of sample) symbol × (is_counted store.old desk (sample_of (number_of sample)) ≡ true) }
+    ensures { Moves store.old (at_desk desk (asking (feed (number_of sample) symbol))) (outcome_of result) store.new }
 {
     let latest = recent_of(store, desk, sample);
     let symbols = latest.symbols;
@@ -113,9 +115,15 @@ fn feed_counted(store: &mut [u32], desk: u32, sample: u32, symbol: u32) -> Resul
 }
 
 // Refusal 10, or the feed of a symbol that follows `recent` and is counted.
-fn feed_after(store: &mut [u32], desk: u32, sample: u32, symbol: u32, recent: &[u32]) -> Result<(), Refusal>
-    requires { Judged store.old desk sample symbol × (recent.now ≡ recent_at store.old desk (sample_of sample)) × (is_counted store.old desk (sample_of sample) ≡ true) }
-    ensures { Moves store.old (at_desk desk (asking (feed sample symbol))) (outcome_of result) store.new }
+fn feed_after(
+    store: &mut [u32],
+    desk: u32,
+    sample: Sample,
+    symbol: u32,
+    recent: &[u32],
+) -> Result<(), Refusal>
+    requires { Judged store.old desk (number_of sample) symbol × (recent.now ≡ recent_at store.old desk (sample_of (number_of sample))) × (is_counted store.old desk (sample_of (number_of sample)) ≡ true) }
+    ensures { Moves store.old (at_desk desk (asking (feed (number_of sample) symbol))) (outcome_of result) store.new }
 {
     let sought = seek_in(store, desk, recent);
     if is_past(store, desk, recent, sought) {

@@ -5,13 +5,14 @@ ghost use Rattle.std.specs.Prelude.{◌≡◌, ◌++◌, ◌+◌, ◌-◌, ◌*�
 ghost use Rattle.numbers.specs.Limits.{most_symbols, longest};
 ghost use Rattle.contexts.specs.Sitting.{sample_of};
 ghost use Rattle.records.specs.Records.{width, records, blank};
+ghost use Rattle.records.specs.Samples.{number_of};
 ghost use Rattle.records.specs.Held.{without, Removable};
 ghost use Rattle.records.specs.Bumped.{raised, Cell, Written};
 ghost use Rattle.records.specs.Fed.{fed, fresh};
 ghost use Rattle.records.specs.Located.{Ready, Insertable, Inserted, Appended};
 ghost use Rattle.recording.specs.Counted.{raised_each, Raisable, with_missing, Growable};
 
-use records::{COUNTS, DESK_SPAN, NEWEST, Sought, WIDTH, eight_at, longer, place_of};
+use records::{COUNTS, DESK_SPAN, NEWEST, Sample, Sought, WIDTH, longer, place_of};
 
 // Takes a desk's records out of the first `n`. Gives the number of records then.
 pub fn remove_desk(numbers: &mut [u32], n: usize, desk: u32) -> usize
@@ -35,15 +36,15 @@ pub fn feed_records(
     numbers: &mut [u32],
     n: usize,
     desk: u32,
-    sample: u32,
+    sample: Sample,
     symbol: u32,
     recent: &[u32],
     sought: Sought,
 ) -> usize
-    requires { Ready desk sample symbol recent.now n numbers.old sought.found sought.places }
-    ensures { Written (fed desk (sample_of sample) symbol recent.now (records n numbers.old)) result numbers.old numbers.new }
+    requires { Ready desk (number_of sample) symbol recent.now n numbers.old sought.found sought.places }
+    ensures { Written (fed desk (sample_of (number_of sample)) symbol recent.now (records n numbers.old)) result numbers.old numbers.new }
 {
-    let cell = 1 + (COUNTS * sample as usize + symbol as usize);
+    let cell = 1 + (COUNTS * sample.index() + symbol as usize);
     raise_held(numbers, cell, sought);
     let found = sought.found;
     if recent.len() < found {
@@ -59,11 +60,8 @@ fn raise_held(numbers: &mut [u32], cell: usize, sought: Sought)
     ensures { numbers.new ≡ raised_each sought.found cell sought.places numbers.old }
 {
     let found = sought.found;
-    let places = sought.places;
-    let mut done: usize = 0;
-    while done < found {
-        raise(numbers, WIDTH * places[done] + cell);
-        done = done + 1;
+    for &place in &sought.places[..found] {
+        raise(numbers, WIDTH * place + cell);
     }
 }
 
@@ -72,7 +70,7 @@ fn raise(numbers: &mut [u32], at: usize)
     requires { (at < length numbers.old) × (get_or numbers.old at 0 ≤ longest) }
     ensures { numbers.new ≡ raised at numbers.old }
 {
-    numbers[at] = numbers[at] + 1;
+    numbers[at] += 1;
 }
 
 // New records at a place, for the contexts from length `found` on. Gives the number of records then.
@@ -112,12 +110,11 @@ fn write_run(part: &mut [u32], desk: u32, recent: &[u32], found: usize, cell: us
 {
     let mut key = desk * DESK_SPAN;
     let mut eights = NEWEST;
-    let mut seen: usize = 0;
-    while seen <= recent.len() {
+    let all = recent.len() + 1;
+    for seen in 0..all {
         write_past(part, found, seen, key, cell);
         key = longer(key, eights, recent, seen);
-        eights = eights / 8;
-        seen = seen + 1;
+        eights /= 8;
     }
 }
 
@@ -126,12 +123,11 @@ fn write_past(part: &mut [u32], found: usize, seen: usize, key: u32, cell: usize
     requires { (width * (seen + 1 - found) ≤ length part.old) × Cell cell }
     ensures { Appended found seen (raised cell (blank key)) part.old part.new }
 {
-    if seen < found {
-        return;
+    if found <= seen {
+        let from = WIDTH * (seen - found);
+        let to = from + WIDTH;
+        write_new(&mut part[from..to], key, cell);
     }
-    let from = WIDTH * (seen - found);
-    let to = from + WIDTH;
-    write_new(&mut part[from..to], key, cell);
 }
 
 // A record of a key with one count, at a cell, over the whole part.
@@ -139,42 +135,18 @@ fn write_new(part: &mut [u32], key: u32, cell: usize)
     requires { (length part.old ≡ width) × Cell cell }
     ensures { part.new ≡ raised cell (blank key) }
 {
-    let mut i: usize = 0;
-    while i < WIDTH {
-        part[i] = 0;
-        i = i + 1;
-    }
+    part.fill(0);
     part[0] = key;
     part[cell] = 1;
 }
 
-// Moves all but the last `gap` numbers up by `gap`, eight at a time: the first `gap` stay as they were.
+// Moves all but the last `gap` numbers up by `gap`: the first `gap` stay as they were.
 fn shift_up(part: &mut [u32], gap: usize)
-    requires { (gap ≤ length part.old) × ((length part.old - gap) % 8 ≡ 0) }
+    requires { gap ≤ length part.old }
     ensures { part.new ≡ take gap part.old ++ take (length part.old - gap) part.old }
 {
-    let mut i = part.len();
-    while gap < i {
-        let end = i;
-        i = i - 8;
-        let moved = eight_at(part, i - gap);
-        put_eight(&mut part[i..end], moved);
-    }
-}
-
-// Eight numbers over the whole part.
-fn put_eight(part: &mut [u32], eight: [u32; 8])
-    requires { length part.old ≡ most_symbols }
-    ensures { part.new ≡ eight }
-{
-    part[0] = eight[0];
-    part[1] = eight[1];
-    part[2] = eight[2];
-    part[3] = eight[3];
-    part[4] = eight[4];
-    part[5] = eight[5];
-    part[6] = eight[6];
-    part[7] = eight[7];
+    let end = part.len() - gap;
+    part.copy_within(0..end, gap);
 }
 
 // Moves all but the first `gap` numbers down by `gap`: the last `gap` stay as they were.
@@ -182,10 +154,6 @@ fn shift_down(part: &mut [u32], gap: usize)
     requires { gap ≤ length part.old }
     ensures { part.new ≡ drop gap part.old ++ drop (length part.old - gap) part.old }
 {
-    let mut i: usize = 0;
-    let end = part.len() - gap;
-    while i < end {
-        part[i] = part[i + gap];
-        i = i + 1;
-    }
+    let end = part.len();
+    part.copy_within(gap..end, 0);
 }

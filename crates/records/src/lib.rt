@@ -3,10 +3,14 @@
 
 ghost use Rattle.std.specs.Prelude.{◌≡◌, ◌+◌, ◌*◌, ◌^◌, ◌≤◌, ◌<◌, length, take, drop, get_or};
 ghost use Rattle.numbers.specs.Limits.{most_symbols};
+ghost use Rattle.contexts.specs.Keys.{eights};
 ghost use Rattle.records.specs.Records.{width, records, lookup};
 ghost use Rattle.records.specs.Held.{held, record_at, count_table, Standing, Placed, Bounded, Onward};
 ghost use Rattle.records.specs.Fed.{Askable};
+ghost use Rattle.records.specs.Samples.{number_of, Names};
 ghost use Rattle.records.specs.Located.{Seeks, longer_key};
+
+use std::array;
 
 // How many numbers a record has.
 pub const WIDTH: usize = 24;
@@ -19,6 +23,43 @@ pub const DESK_SPAN: u32 = 2097152;
 
 // The power of eight at which the most recent symbol stands in a key; each older one stands at an eighth of the one before.
 pub const NEWEST: u32 = 262144;
+
+// One of a sitting's two samples.
+#[derive(Clone, Copy, Debug, PartialEq, Eq)]
+pub enum Sample {
+    First,
+    Second,
+}
+
+// A number that names no sample.
+#[derive(Clone, Copy, Debug, PartialEq, Eq)]
+pub struct NoSample(pub u32);
+
+impl TryFrom<u32> for Sample {
+    type Error = NoSample;
+
+    ghost try_from_gives = { Names };
+
+    fn try_from(number: u32) -> Result<Self, NoSample> {
+        match number {
+            0 => Ok(Sample::First),
+            1 => Ok(Sample::Second),
+            _ => Err(NoSample(number)),
+        }
+    }
+}
+
+impl Sample {
+    // Its number, by which what is the first's stands before what is the second's.
+    pub fn index(self) -> usize
+        ensures { result ≡ number_of self }
+    {
+        match self {
+            Sample::First => 0,
+            Sample::Second => 1,
+        }
+    }
+}
 
 // Where the contexts that a symbol follows stand: how many of them are held, and their places. Where one is not held, its place comes after those.
 // The other places are 0.
@@ -40,8 +81,8 @@ pub fn counts_at(numbers: &[u32], at: usize) -> [[u32; 8]; 2]
     requires { width * (at + 1) ≤ length numbers.now }
     ensures { result ≡ count_table (record_at at numbers.now) }
 {
-    let first = eight_at(numbers, WIDTH * at + 1);
-    let second = eight_at(numbers, WIDTH * at + (1 + COUNTS));
+    let first = numbers_at(numbers, WIDTH * at + 1);
+    let second = numbers_at(numbers, WIDTH * at + (1 + COUNTS));
     [first, second]
 }
 
@@ -71,20 +112,19 @@ pub fn seek(numbers: &[u32], n: usize, desk: u32, recent: &[u32]) -> Sought
     let mut places = [0usize; 7];
     let mut key = desk * DESK_SPAN;
     let mut eights = NEWEST;
-    let mut from: usize = 0;
-    let mut found: usize = 0;
-    while found <= recent.len() {
+    let mut from = 0;
+    let all = recent.len() + 1;
+    for found in 0..all {
         let at = place_from(numbers, n, from, key);
         places[found] = at;
         if !stands(numbers, n, at, key) {
             return Sought { found, places };
         }
         key = longer(key, eights, recent, found);
-        eights = eights / 8;
+        eights /= 8;
         from = at + 1;
-        found = found + 1;
     }
-    Sought { found, places }
+    Sought { found: all, places }
 }
 
 // The counts under a key: zeros where none of the first `n` records has it.
@@ -93,12 +133,11 @@ pub fn table_of(numbers: &[u32], n: usize, key: u32) -> [[u32; 8]; 2]
     ensures { result ≡ count_table (lookup key (records n numbers.now)) }
 {
     let at = place_of(numbers, n, key);
-    if at < n {
-        if numbers[WIDTH * at] == key {
-            return counts_at(numbers, at);
-        }
+    if at < n && numbers[WIDTH * at] == key {
+        counts_at(numbers, at)
+    } else {
+        [[0; 8]; 2]
     }
-    [[0u32; 8]; 2]
 }
 
 // Between which places a key stands, from a place on: by doubling the way.
@@ -141,10 +180,7 @@ pub fn stands(numbers: &[u32], n: usize, at: usize, key: u32) -> bool
     requires { Standing n numbers.now × Placed key n at numbers.now }
     ensures { result ≡ held key (records n numbers.now) }
 {
-    if at < n {
-        return numbers[WIDTH * at] == key;
-    }
-    false
+    at < n && numbers[WIDTH * at] == key
 }
 
 // The key of a context that is longer by the recent symbol at a place: that symbol at its power of eight, and 1 for the length. The same key where none is there.
@@ -152,25 +188,25 @@ pub fn longer(key: u32, eights: u32, recent: &[u32], place: usize) -> u32
     requires { place < length recent.now → key + (get_or recent.now place 0 * eights + 1) < 2 ^ 32 }
     ensures { result ≡ longer_key key eights recent.now place }
 {
-    if place < recent.len() {
-        return key + (recent[place] * eights + 1);
+    match recent.get(place) {
+        Some(&symbol) => key + (symbol * eights + 1),
+        None => key,
     }
-    key
 }
 
-// The eight numbers from a place on.
-pub fn eight_at(numbers: &[u32], at: usize) -> [u32; 8]
-    requires { at + most_symbols ≤ length numbers.now }
-    ensures { result ≡ take most_symbols (drop at numbers.now) }
+// The power of eight at which the oldest of `len` symbols stands in a key: by a shift, which is faster than a table.
+pub fn eights_of(len: u32) -> u32
+    requires { len < 8 }
+    ensures power { result ≡ eights len }
+    ensures positive { 0 < result }
 {
-    [
-        numbers[at],
-        numbers[at + 1],
-        numbers[at + 2],
-        numbers[at + 3],
-        numbers[at + 4],
-        numbers[at + 5],
-        numbers[at + 6],
-        numbers[at + 7],
-    ]
+    1u32 << (21 - 3 * len)
+}
+
+// The `N` numbers from a place on.
+pub fn numbers_at<const N: usize>(numbers: &[u32], at: usize) -> [u32; N]
+    requires { at + N ≤ length numbers.now }
+    ensures { result ≡ take N (drop at numbers.now) }
+{
+    array::from_fn(|i| numbers[at + i])
 }

@@ -13,7 +13,7 @@ ghost use Rattle.store.specs.Sound.{soundb, of_alphabet, frame_ok, limits_ok, sl
 ghost use Rattle.store.specs.Walk.{largest_sum, Summed, oldest_ok, ends_ok, up_mark, key_fits, seen_mark, mark_ok, step_ok, tally_ok, passb};
 
 use numbers::{DEEPEST, DESKS, FEWEST_SYMBOLS, LONGEST, MOST_ROOM, MOST_SYMBOLS, MOST_WEIGHT};
-use records::{COUNTS, DESK_SPAN, WIDTH};
+use records::{COUNTS, DESK_SPAN, WIDTH, eights_of};
 use store::layout::{
     COUNTS_FIRST, COUNTS_SECOND, DEPTH, DESK_SIZE, FIRST_DESK, HEADER, OPEN, RECENT_FIRST,
     RECENT_SECOND, RESERVE, ROOM, SIZE_FIRST, SIZE_SECOND, SLOTS, SYMBOLS, USED, WEIGHT, field_at,
@@ -23,15 +23,13 @@ use store::layout::{
 pub fn sound(store: &[u32]) -> bool
     ensures { result ≡ soundb store.now }
 {
-    if frame_ok(store) {
-        let many = store[USED] as usize;
-        let room = store[ROOM] as u64;
-        let body = &store[HEADER..];
-        if pass(store, body, many) {
-            return reserved(store) <= room;
-        }
+    if !frame_ok(store) {
+        return false;
     }
-    false
+    let many = store[USED] as usize;
+    let room = u64::from(store[ROOM]);
+    let body = &store[HEADER..];
+    pass(store, body, many) && reserved(store) <= room
 }
 
 // The length, the room and the number of records in use.
@@ -39,17 +37,11 @@ fn frame_ok(store: &[u32]) -> bool
     ensures { result ≡ frame_ok store.now }
 {
     let len = store.len();
-    if HEADER <= len {
-        let room = store[ROOM] as usize;
-        if 1 <= room {
-            if room <= MOST_ROOM {
-                if HEADER + WIDTH * room <= len {
-                    return store[USED] as usize <= room;
-                }
-            }
-        }
+    if len < HEADER {
+        return false;
     }
-    false
+    let room = store[ROOM] as usize;
+    1 <= room && room <= MOST_ROOM && HEADER + WIDTH * room <= len && store[USED] as usize <= room
 }
 
 // A mark for each length that a key's digit can have, one place on.
@@ -64,26 +56,21 @@ fn pass(store: &[u32], body: &[u32], many: usize) -> bool
     let mut p = [0u32; MARKS];
     let mut q = [0u32; MARKS];
     let mut tally = [0u32; DESKS];
-    let mut lo: u32 = 0;
-    let mut i: usize = 0;
-    while i < many {
-        let at = WIDTH * i;
-        let end = at + WIDTH;
-        let held = &body[at..end];
+    let mut lo = 0;
+    let (whole, _) = body.as_chunks::<WIDTH>();
+    for held in &whole[..many] {
         let key = held[0];
         let len = (key % 8) as usize;
         let x = total(held, COUNTS_FIRST);
         let y = total(held, COUNTS_SECOND);
-        if record_ok(store, held, lo, x, y, p[len], q[len]) {
-            let desk = (key / DESK_SPAN) as usize;
-            p[len + 1] = mark(key, x);
-            q[len + 1] = mark(key, y);
-            tally[desk] = tally[desk] + 1;
-            lo = key + 1;
-            i = i + 1;
-        } else {
+        if !record_ok(store, held, lo, x, y, p[len], q[len]) {
             return false;
         }
+        let desk = (key / DESK_SPAN) as usize;
+        p[len + 1] = mark(key, x);
+        q[len + 1] = mark(key, y);
+        tally[desk] += 1;
+        lo = key + 1;
     }
     desks_ok(store, tally)
 }
@@ -93,11 +80,10 @@ fn total(held: &[u32], from: usize) -> u64
     requires { from + most_symbols ≤ length held.now }
     ensures { (result ≡ sum_of (take most_symbols (drop from held.now))) × (result ≤ largest_sum) }
 {
-    let mut seen: u64 = 0;
-    let mut i: usize = 0;
-    while i < COUNTS {
-        seen = seen + held[from + i] as u64;
-        i = i + 1;
+    let end = from + COUNTS;
+    let mut seen = 0;
+    for &count in &held[from..end] {
+        seen += u64::from(count);
     }
     seen
 }
@@ -108,15 +94,9 @@ fn record_ok(store: &[u32], held: &[u32], lo: u32, x: u64, y: u64, p: u32, q: u3
     ensures { result ≡ step_ok store.now lo p q held.now }
 {
     let key = held[0];
-    if lo <= key {
-        if key_fits(store, key) {
-            if table_ok(store, held, x, y) {
-                let up = up_mark(key);
-                if mark_ok(x, p, up) {
-                    return mark_ok(y, q, up);
-                }
-            }
-        }
+    if lo <= key && key_fits(store, key) && table_ok(store, held, x, y) {
+        let up = up_mark(key);
+        return mark_ok(x, p, up) && mark_ok(y, q, up);
     }
     false
 }
@@ -127,23 +107,18 @@ fn key_fits(store: &[u32], key: u32) -> bool
     ensures { result ≡ key_fits store.now key }
 {
     let desk = (key / DESK_SPAN) as usize;
-    if desk < DESKS {
-        if field_at(store, desk, OPEN) == 1 {
-            if key % 8 <= field_at(store, desk, DEPTH) {
-                if oldest_ok(field_at(store, desk, SYMBOLS), key) {
-                    return ends_ok(key);
-                }
-            }
-        }
-    }
-    false
+    desk < DESKS
+        && field_at(store, desk, OPEN) == 1
+        && key % 8 <= field_at(store, desk, DEPTH)
+        && oldest_ok(field_at(store, desk, SYMBOLS), key)
+        && ends_ok(key)
 }
 
 // Whether the oldest symbol of a key is below `a`.
 fn oldest_ok(a: u32, key: u32) -> bool
     ensures { result ≡ oldest_ok a key }
 {
-    let w = eights_of((key % 8) as usize);
+    let w = eights_of(key % 8);
     key % DESK_SPAN / w % 8 < a
 }
 
@@ -152,16 +127,8 @@ fn ends_ok(key: u32) -> bool
     ensures { result ≡ ends_ok key }
 {
     let len = key % 8;
-    let w = eights_of(len as usize);
+    let w = eights_of(len);
     key % w == len
-}
-
-// The power of eight at which the oldest of `len` symbols stands in a key: by a shift, which is faster than a table.
-fn eights_of(len: usize) -> u32
-    requires { len < 8 }
-    ensures { (result ≡ eights len) × (0 < result) }
-{
-    1u32 << (21 - 3 * len)
 }
 
 // The counts of both samples by what the key's desk says, and at least one.
@@ -173,12 +140,7 @@ fn table_ok(store: &[u32], held: &[u32], x: u64, y: u64) -> bool
     let a = field_at(store, desk, SYMBOLS);
     let n = field_at(store, desk, SIZE_FIRST);
     let m = field_at(store, desk, SIZE_SECOND);
-    if counts_ok(held, COUNTS_FIRST, x, a, n) {
-        if counts_ok(held, COUNTS_SECOND, y, a, m) {
-            return 0 < x + y;
-        }
-    }
-    false
+    counts_ok(held, COUNTS_FIRST, x, a, n) && counts_ok(held, COUNTS_SECOND, y, a, m) && 0 < x + y
 }
 
 // A sample's counts, `seen` in all: none from symbol `a` up, and no more than `most`.
@@ -186,10 +148,7 @@ fn counts_ok(held: &[u32], from: usize, seen: u64, a: u32, most: u32) -> bool
     requires { (from + most_symbols ≤ length held.now) × (seen ≡ sum_of (take most_symbols (drop from held.now))) }
     ensures { result ≡ counts_ok a most (take most_symbols (drop from held.now)) }
 {
-    if quiet(held, from, a as usize) {
-        return seen <= most as u64;
-    }
-    false
+    quiet(held, from, a as usize) && seen <= u64::from(most)
 }
 
 // Whether the counts that begin at a place of a record are 0 from symbol `a` up.
@@ -198,13 +157,12 @@ fn quiet(held: &[u32], from: usize, a: usize) -> bool
     requires { from + most_symbols ≤ length held.now }
     ensures { result ≡ quiet_from a (take most_symbols (drop from held.now)) }
 {
+    let end = from + COUNTS;
     let mut seen: u64 = 0;
-    let mut i: usize = 0;
-    while i < COUNTS {
-        if a <= i {
-            seen = seen + held[from + i] as u64;
+    for (symbol, &count) in held[from..end].iter().enumerate() {
+        if a <= symbol {
+            seen += u64::from(count);
         }
-        i = i + 1;
     }
     seen == 0
 }
@@ -215,7 +173,7 @@ fn up_mark(key: u32) -> u32
     ensures { result ≡ up_mark key }
 {
     let len = key % 8;
-    let w = eights_of(len as usize);
+    let w = eights_of(len);
     key / w / 8 * 8 * w + len
 }
 
@@ -223,10 +181,7 @@ fn up_mark(key: u32) -> u32
 fn mark_ok(seen: u64, mark: u32, up: u32) -> bool
     ensures { result ≡ mark_ok seen mark up }
 {
-    if seen == 0 {
-        return true;
-    }
-    mark == up
+    seen == 0 || mark == up
 }
 
 // The mark of a key in a sample that has seen it `seen` times.
@@ -234,10 +189,7 @@ fn mark(key: u32, seen: u64) -> u32
     requires { key < desks * desk_span }
     ensures { result ≡ seen_mark key seen }
 {
-    if 0 < seen {
-        return key + 1;
-    }
-    0
+    if 0 < seen { key + 1 } else { 0 }
 }
 
 // The desks' tests, with the number of each one's records.
@@ -245,11 +197,8 @@ fn desks_ok(store: &[u32], tally: [u32; DESKS]) -> bool
     requires { header_size ≤ length store.now }
     ensures { result ≡ every desks (tally_ok store.now tally) }
 {
-    let mut desk: usize = 0;
-    while desk < DESKS {
-        if desk_ok(store, desk, tally[desk]) {
-            desk = desk + 1;
-        } else {
+    for (desk, &many) in tally.iter().enumerate() {
+        if !desk_ok(store, desk, many) {
             return false;
         }
     }
@@ -261,15 +210,8 @@ fn desk_ok(store: &[u32], desk: usize, many: u32) -> bool
     requires { (header_size ≤ length store.now) × (desk < desks) }
     ensures { result ≡ desk_test store.now desk many }
 {
-    if field_at(store, desk, OPEN) == 1 {
-        if limits_ok(store, desk) {
-            if many <= field_at(store, desk, RESERVE) {
-                return slots_ok(store, desk);
-            }
-        }
-        return false;
-    }
-    true
+    field_at(store, desk, OPEN) != 1
+        || limits_ok(store, desk) && many <= field_at(store, desk, RESERVE) && slots_ok(store, desk)
 }
 
 // Whether A, D, the weight, the reservation and the lengths of a desk are within their limits.
@@ -278,25 +220,13 @@ fn limits_ok(store: &[u32], desk: usize) -> bool
     ensures { result ≡ limits_ok store.now desk }
 {
     let a = field_at(store, desk, SYMBOLS);
-    if a < FEWEST_SYMBOLS {
-        return false;
-    }
-    if MOST_SYMBOLS < a {
-        return false;
-    }
-    if DEEPEST < field_at(store, desk, DEPTH) {
-        return false;
-    }
-    if MOST_WEIGHT < field_at(store, desk, WEIGHT) {
-        return false;
-    }
-    if field_at(store, desk, RESERVE) < 1 {
-        return false;
-    }
-    if LONGEST < field_at(store, desk, SIZE_FIRST) {
-        return false;
-    }
-    field_at(store, desk, SIZE_SECOND) <= LONGEST
+    FEWEST_SYMBOLS <= a
+        && a <= MOST_SYMBOLS
+        && field_at(store, desk, DEPTH) <= DEEPEST
+        && field_at(store, desk, WEIGHT) <= MOST_WEIGHT
+        && 1 <= field_at(store, desk, RESERVE)
+        && field_at(store, desk, SIZE_FIRST) <= LONGEST
+        && field_at(store, desk, SIZE_SECOND) <= LONGEST
 }
 
 // Whether the places of a desk's recent symbols have symbols.
@@ -306,29 +236,16 @@ fn slots_ok(store: &[u32], desk: usize) -> bool
 {
     let a = field_at(store, desk, SYMBOLS);
     let start = FIRST_DESK + DESK_SIZE * desk;
-    let from = start + RECENT_FIRST;
-    let to = from + SLOTS;
-    if all_below(&store[from..to], a) {
-        let from = start + RECENT_SECOND;
-        let to = from + SLOTS;
-        return all_below(&store[from..to], a);
-    }
-    false
+    let first = start + RECENT_FIRST;
+    let second = start + RECENT_SECOND;
+    all_below(&store[first..first + SLOTS], a) && all_below(&store[second..second + SLOTS], a)
 }
 
 // Whether every symbol of a part is below `a`.
 fn all_below(part: &[u32], a: u32) -> bool
     ensures { result ≡ all (of_alphabet a) part.now }
 {
-    let mut i: usize = 0;
-    while i < part.len() {
-        if part[i] < a {
-            i = i + 1;
-        } else {
-            return false;
-        }
-    }
-    true
+    part.iter().all(|&symbol| symbol < a)
 }
 
 // What the open desks have reserved.
@@ -336,13 +253,11 @@ pub fn reserved(store: &[u32]) -> u64
     requires { header_size ≤ length store.now }
     ensures { result ≡ sum desks (reserved_at store.now) }
 {
-    let mut sum: u64 = 0;
-    let mut desk: usize = 0;
-    while desk < DESKS {
-        sum = sum + reserved_at(store, desk);
-        desk = desk + 1;
+    let mut all = 0;
+    for desk in 0..DESKS {
+        all += reserved_at(store, desk);
     }
-    sum
+    all
 }
 
 // What a desk has reserved.
@@ -351,7 +266,8 @@ fn reserved_at(store: &[u32], desk: usize) -> u64
     ensures { (result ≡ reserved_at store.now desk) × (result < 4294967296) }
 {
     if field_at(store, desk, OPEN) == 1 {
-        return field_at(store, desk, RESERVE) as u64;
+        u64::from(field_at(store, desk, RESERVE))
+    } else {
+        0
     }
-    0
 }

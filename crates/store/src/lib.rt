@@ -3,7 +3,7 @@
 
 pub mod layout;
 
-ghost use Rattle.std.specs.Prelude.{◌≡◌, length, replicate};
+ghost use Rattle.std.specs.Prelude.{◌≡◌};
 ghost use Rattle.store.specs.Making.{Makes, refusal_number};
 
 use layout::{HEADER, ROOM};
@@ -40,18 +40,7 @@ pub fn make(store: &mut [u32], room: u32) -> Result<(), Refusal>
     if store.len() < HEADER + WIDTH * many {
         return Err(Refusal::StoreShort);
     }
-    clear(&mut store[..HEADER]);
+    store[..HEADER].fill(0);
     store[ROOM] = room;
     Ok(())
-}
-
-// Writes 0 to every number of a part.
-fn clear(part: &mut [u32])
-    ensures { part.new ≡ replicate (length part.old) 0 }
-{
-    let mut i: usize = 0;
-    while i < part.len() {
-        part[i] = 0;
-        i = i + 1;
-    }
 }

@@ -8,7 +8,6 @@ use Rattle.records.specs.Records.{records, keys}
 use Rattle.records.specs.Held.{keep, of_desk}
 use Rattle.records.proofs.Rising.{rank_same}
 use Rattle.entering.proofs.Asking.{desk_many}
-use borrow.Author.Rules.{rules}
 use Rattle.entering.proofs.held_by.Goals as goal
 use Rattle.entering.proofs.held_by.Goals.{After-place_from}
 

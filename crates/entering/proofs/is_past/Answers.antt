@@ -1,6 +1,5 @@
 -- `entering::is_past` meets its contract: refusal 10. Assumes nothing.
 use native.Mathlib.Omega.{arith}
-use borrow.Author.Rules.{rules}
 use Rattle.store.proofs.Passing.{header_long, field_readable}
 use Rattle.entering.proofs.Asking.{none_past, few_places, spanned, sum_small, past_is}
 use Rattle.entering.proofs.is_past.Goals as goal

@@ -2,7 +2,6 @@
 use native.Mathlib.Omega.{arith}
 use Rattle.store.proofs.Passing.{header_long}
 use Rattle.entering.proofs.Asking.{lent_askable, sought_in}
-use borrow.Author.Rules.{rules}
 use Rattle.entering.proofs.seek_in.Goals as goal
 
 pub bounds-store-1 : goal.bounds-store-1

@@ -1,6 +1,6 @@
 -- `recording::write_run` meets its contract: the records of the contexts that are shorter than `seen` are written. Assumes nothing.
-use mathlib.Core.Path.{◌≡◌, refl}
-use Prim.Native.Nat.{◌+◌, ◌≤◌}
+use mathlib.Core.Path.{refl}
+use Prim.Native.Nat.{◌≤◌}
 use native.Mathlib.Omega.{arith}
 use borrow.Author.Rules.{rules}
 use lib.ListN.{length}
@@ -12,10 +12,6 @@ pub loop-seen-init : goal.loop-seen-init
 loop-seen-init c =
     let x = c.args in
     (walk_start x.desk x.recent.now, refl, run_start x.desk x.recent.now x.found x.cell x.part.now)
-
-pub write_past-requires : goal.write_past-requires
-write_past-requires c =
-    (omega (arith, c.requires.fits), c.requires.cell)
 
 pub longer-key-requires : goal.longer-key-requires
 longer-key-requires c =
@@ -33,13 +29,3 @@ loop-seen-preserved c =
       search rules,
       run_on x.desk x.recent.now x.found x.cell at.seen at.key at.part wrote.new.part (at.invariant.0.key_is on) at.invariant.2 wrote.ensures,
     )
-
-pub shape_of-part : goal.shape_of-part
-shape_of-part c = c.loop-seen.invariant.1
-
-pub returns : goal.returns
-returns c =
-    let x = c.args in
-    let at = c.loop-seen in
-    let all : at.seen ≡ length x.recent.now + 1 = omega (arith, at.invariant.0.within) in
-    rw all at at.invariant.2

@@ -1,6 +1,7 @@
 -- `records::seek` meets its contract: the contexts that are shorter than `found` are held, at their places. Assumes nothing.
 use mathlib.Core.Path.{sym, ◌∙◌}
-use Prim.Native.Nat.{◌≤◌, ◌<◌}
+use mathlib.Core.Path.{◌≡◌}
+use Prim.Native.Nat.{◌+◌, ◌≤◌, ◌<◌}
 use native.Mathlib.Omega.{arith}
 use lib.ListN.{length}
 use Rattle.numbers.specs.Limits.{most_symbols, deepest}
@@ -60,4 +61,5 @@ pub returns : goal.returns
 returns c =
     let x = c.args in
     let at = c.loop-found in
-    located_all x.desk x.recent.now x.n x.numbers.now c.requires at.places at.key at.eights at.from at.found at.invariant.0 at.invariant.1 (omega arith)
+    let all : at.found ≡ length x.recent.now + 1 = omega arith in
+    rw all at (located_all x.desk x.recent.now x.n x.numbers.now c.requires at.places at.key at.eights at.from at.found at.invariant.0 at.invariant.1 (omega arith))

@@ -1,6 +1,4 @@
 -- `records::seek` meets its contract: the contexts that are shorter than `found` are held, at their places. Assumes nothing.
-use Prim.Native.Nat.{◌+◌, ◌-◌}
-use lib.ListN.{length}
 use Rattle.records.specs.Records.{records}
 use Rattle.records.proofs.KeyWalk.{Walk}
 use Rattle.records.proofs.Seeking.{Passed}
@@ -9,6 +7,3 @@ use Rattle.records.proofs.seek.Given as goal
 abbrev pub invariant-loop-found : goal.invariant-loop-found
 invariant-loop-found l =
     Walk l.desk l.recent l.key l.eights l.found × Passed l.desk l.recent (records l.n l.numbers) l.places l.from l.found
-
-abbrev pub decreases-loop-found : goal.decreases-loop-found
-decreases-loop-found l = length l.recent + 1 - l.found

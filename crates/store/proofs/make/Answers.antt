@@ -27,13 +27,13 @@ returns-then-store-many c =
     let m : length s < store_size K = omega arith in
     making_refused K s StoreShort (rw (le-ltb K 1 l, le-ltb most_room K h, lt-ltb (length s) (store_size K) m))
 
-pub slice_bounds-clear-end-2 : goal.slice_bounds-clear-end-2
-slice_bounds-clear-end-2 c = sym (length-take-le header_size c.args.store.now (omega arith))
+pub slice_bounds-fill-end-2 : goal.slice_bounds-fill-end-2
+slice_bounds-fill-end-2 c = sym (length-take-le header_size c.args.store.now (omega arith))
 
 pub returns : goal.returns
 returns c =
     let K = c.args.room in
     let s = c.args.store.now in
     let many : length (take header_size s) ≡ header_size = length-take-le header_size s (omega arith) in
-    let zeros : c.clear.new.part ≡ replicate header_size 0 = c.clear.ensures ∙ ap (λ (n : ℕ). replicate n 0) many in
+    let zeros : c.fill.new.self ≡ replicate header_size 0 = c.fill.ensures.after (λ y e. e) ∙ ap (λ (n : ℕ). replicate n 0) many in
     making_done K s _ (omega arith) (omega arith) (omega arith) (ap (λ (z : List ℕ). set (z ++ drop header_size s) 0 K) zeros)
