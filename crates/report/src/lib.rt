@@ -3,7 +3,6 @@
 
 ghost use Rattle.std.specs.Prelude.{◌≡◌, ◌+◌, ◌/◌, ◌^◌, ◌≤◌, ◌<◌, length, pos, neg_ℤ};
 ghost use Rattle.numbers.specs.Limits.{desks, most_room, row_width};
-ghost use Rattle.logarithm.specs.Table.{AreLogs};
 ghost use Rattle.store.specs.Layout.{header_size};
 ghost use Rattle.store.specs.Meaning.{sitting_at};
 ghost use Rattle.calls.specs.Refusals.{written_of};
@@ -12,6 +11,7 @@ ghost use Rattle.rows.specs.Rows as rows;
 ghost use Rattle.report.specs.Desk.{desk_in, CanReportOn, WeighedDesk, DecidedDesk};
 
 use calls::{Refusal, Reported};
+use logarithm::LentLogs;
 use numbers::{DESKS, MOST_ROOM, ROW_WIDTH};
 use store::layout::{
     DEPTH, HEADER, OPEN, SIZE_FIRST, SIZE_SECOND, SYMBOLS, USED, WEIGHT, field_at,
@@ -57,13 +57,14 @@ fn report_on(store: &[u32], desk: Desk, sheet: &mut [u32], place: u32) -> Result
     ensures { Reports store.now desk.number place (written_of result place sheet.new) sheet.old sheet.new }
 {
     let logs = logarithm::logs();
+    let logs = LentLogs::new(&logs);
     let mut kept = [0u8; MOST_ROOM];
-    let least = weighed(&logs, store, desk, &mut kept);
+    let least = weighed(logs, store, desk, &mut kept);
     let whole = sheet.len() / ROW_WIDTH;
     if whole < place as usize + least.rows as usize {
         return Err(Refusal::SheetShort);
     }
-    write(&logs, store, desk, &kept, sheet, place);
+    write(logs, store, desk, &kept, sheet, place);
     Ok(Reported {
         rows: least.rows as u32,
         score: score_of(least.joint),
@@ -79,8 +80,8 @@ fn score_of(loss: u64) -> i64
 }
 
 // Weighs an open desk's records; the decisions are kept beside them.
-fn weighed(logs: &[u32], store: &[u32], desk: Desk, kept: &mut [u8]) -> Least
-    requires { AreLogs logs.now × CanReportOn store.now desk × (most_room ≤ length kept.old) }
+fn weighed(logs: LentLogs, store: &[u32], desk: Desk, kept: &mut [u8]) -> Least
+    requires { CanReportOn store.now desk × (most_room ≤ length kept.old) }
     ensures { WeighedDesk store.now desk.number kept.new result }
 {
     let used = store[USED] as usize;
@@ -88,8 +89,8 @@ fn weighed(logs: &[u32], store: &[u32], desk: Desk, kept: &mut [u8]) -> Least
 }
 
 // Writes a weighed desk's rows from row `place` on.
-fn write(logs: &[u32], store: &[u32], desk: Desk, kept: &[u8], sheet: &mut [u32], place: u32)
-    requires { AreLogs logs.now × CanReportOn store.now desk × DecidedDesk store.now desk.number kept.now × (place + length (rows.report_of (sitting_at store.now desk.number)) ≤ length sheet.old / row_width) }
+fn write(logs: LentLogs, store: &[u32], desk: Desk, kept: &[u8], sheet: &mut [u32], place: u32)
+    requires { CanReportOn store.now desk × DecidedDesk store.now desk.number kept.now × (place + length (rows.report_of (sitting_at store.now desk.number)) ≤ length sheet.old / row_width) }
     ensures { sheet.new ≡ with_rows place (rows.report_of (sitting_at store.now desk.number)) sheet.old }
 {
     let used = store[USED] as usize;

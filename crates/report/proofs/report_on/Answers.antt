@@ -1,6 +1,5 @@
 -- `report::report_on` meets its contract. Assumes nothing.
 use native.Mathlib.Omega.{arith}
-use borrow.Author.Rules.{rules}
 use Rattle.report.proofs.Answering.{short_told, report_told}
 use Rattle.report.proofs.Negative.{minus_back}
 use Rattle.report.proofs.report_on.Goals as goal
@@ -8,10 +7,6 @@ use Rattle.report.proofs.report_on.Goals as goal
 pub returns-then-whole-place : goal.returns-then-whole-place
 returns-then-whole-place c =
     short_told c.args.store.now c.args.desk c.requires c.args.place c.args.sheet.now _ c.weighed-least.result c.weighed-least.ensures c.if-whole-place.true
-
-pub write-requires : goal.write-requires
-write-requires c =
-    (c.logs-logs.ensures, c.requires, c.weighed-least.ensures.decided, omega (arith, c.weighed-least.ensures.rows_are, c.if-whole-place.false))
 
 pub returns : goal.returns
 returns c =

@@ -3,7 +3,6 @@ use Prim.Native.Nat.{ℕ, ◌-◌, ◌*◌}
 use native.Mathlib.Omega.{arith}
 use mathlib.Core.Path.{refl, subst}
 use mathlib.Core.List.{List}
-use borrow.Author.Rules.{rules}
 use lib.ListN.{length, take, drop}
 use Rattle.numbers.specs.Limits.{row_width}
 use Rattle.records.proofs.Lent.{tail_lent}
@@ -13,28 +12,23 @@ use Rattle.report.proofs.Writing.{can_write, has_written}
 use Rattle.report.proofs.ByValue.{sized}
 use Rattle.report.proofs.write.Goals as goal
 
-pub bounds-store-1 : goal.bounds-store-1
-bounds-store-1 c = let h = sized c.args.store.now c.args.desk c.requires.1 in omega arith
-
 pub slice_bounds-write_rows-count : goal.slice_bounds-write_rows-count
-slice_bounds-write_rows-count c = let h = sized c.args.store.now c.args.desk c.requires.1 in omega arith
+slice_bounds-write_rows-count c = let h = sized c.args.store.now c.args.desk c.requires.0 in omega arith
 
 pub slice_bounds-write_rows-start : goal.slice_bounds-write_rows-start
-slice_bounds-write_rows-start c = let h = sized c.args.store.now c.args.desk c.requires.1 in omega arith
+slice_bounds-write_rows-start c = let h = sized c.args.store.now c.args.desk c.requires.0 in omega arith
 
 pub write_rows-requires : goal.write_rows-requires
-write_rows-requires c = (
-  c.requires.0,
-  rw (tail_lent header_size c.args.store.now, tail_lent (row_width * c.args.place) c.args.sheet.now)
-      (can_write c.args.store.now c.args.desk c.requires.1 c.args.place c.args.sheet.now c.requires.3 c.args.kept.now c.requires.2),
-)
+write_rows-requires c =
+    rw (tail_lent header_size c.args.store.now, tail_lent (row_width * c.args.place) c.args.sheet.now)
+    (can_write c.args.store.now c.args.desk c.requires.0 c.args.place c.args.sheet.now c.requires.2 c.args.kept.now c.requires.1)
 
 pub returns : goal.returns
 returns c =
     let store = c.args.store.now in
     let sheet = c.args.sheet.now in
     let part = c.write_rows.new.sheet in
-    has_written store c.args.desk c.requires.1 c.args.place sheet c.requires.3 part _
+    has_written store c.args.desk c.requires.0 c.args.place sheet c.requires.2 part _
     (subst (λ (l : List ℕ). Listed c.args.desk (used store) l (drop (row_width * c.args.place) sheet) part) (tail_lent header_size store)
     (subst (λ (l : List ℕ). Listed c.args.desk (used store) (take (length store - header_size) (drop header_size store)) l part) (tail_lent (row_width * c.args.place) sheet) c.write_rows.ensures))
     refl
