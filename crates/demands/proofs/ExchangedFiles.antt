@@ -19,7 +19,7 @@ use Rattle.rules.specs.Strings.{sitting_for}
 use Rattle.printing.specs.declared.Head.{Head}
 use Rattle.sitting_file.specs.Format.{read_of}
 use Rattle.sitting_file.specs.declared.Shape.{Shape}
-use Rattle.std.specs.Prelude.{Result, Ok, Err}
+use Rattle.std.specs.Prelude.{Ok}
 use Rattle.sitting_file.proofs.AcceptedFile.{accepted_holds}
 use Rattle.judgement.specs.Judgement.{room_made, opening_of, strings_in, file_sitting, past_room, empty_sample, short_sample, file_lines}
 use Rattle.judgement.proofs.Exactly.{refuses_exactly}

@@ -39,10 +39,10 @@ unfolding strings_in
 over file shape e first = reverse_over shape.alphabet (first_of file shape) (below file shape e first)
 over file shape e second = reverse_over shape.alphabet (second_of file shape) (below file shape e second)
 
-same_head : {h k : Head} → Ok h ≡ Ok k → h ≡ k
+same_head : {h k : Head} → ◌≡◌ {A = Result Head ℕ} (Ok h) (Ok k) → h ≡ k
 same_head e = cc
 
-never : {B : Type 0} {h : Head} {n : ℕ} → Ok h ≡ Err n → B
+never : {B : Type 0} {h : Head} {n : ℕ} → ◌≡◌ {A = Result Head ℕ} (Ok h) (Err n) → B
 never e = let z : ◌≡◌ {A = ℕ} 0 1 = cc in absurd (omega arith)
 
 pub demand_of_program : DemandOfProgram

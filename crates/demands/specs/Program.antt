@@ -12,7 +12,7 @@ use Rattle.sitting_file.specs.Samples.{Below, first_of, second_of}
 use Rattle.sitting_file.specs.declared.Shape.{Shape}
 use Rattle.judgement.specs.Judgement.{opening_of, file_sitting}
 use Rattle.judgement.specs.Answers.{headed, Answers}
-use Rattle.std.specs.Prelude.{Result, Ok, Err}
+use Rattle.std.specs.Prelude.{Ok}
 use Rattle.demands.specs.Demands.{JointEstimate}
 
 -- a sample of the file as it stands there, oldest symbol first

@@ -7,7 +7,7 @@ use Rattle.store.specs.Making.{Makes}
 use Rattle.rules.specs.Rules.{Answer, feed, reporting, charting, rules}
 use Rattle.calls.specs.Refusals.{written_of}
 use Rattle.changes.specs.Words.{Words}
-use Rattle.std.specs.Prelude.{Result, Ok, Err}
+use Rattle.std.specs.Prelude.{Result, Ok}
 use Rattle.calls.specs.declared.Refusal.{Refusal}
 use Rattle.calls.specs.declared.Reported as written
 use Rattle.calls.specs.Promises.{Moves, Asks, Reports}
@@ -40,7 +40,7 @@ Does σ room_question o τ = OnlyAsked σ room_question o τ
 -- σ is what an accepted making of room K left, on any numbers
 pub record MadeNew (K : Making) (σ : List ℕ) : Type 0 where
   pub lent : List ℕ
-  pub makes : Makes K lent Done σ
+  pub makes : Makes K lent (Ok tt) σ
 
 -- calls one after the other, what each answered, and the numbers at the end
 pub data Run : List ℕ → List (Call rules) → List (Outcome Answer) → List ℕ → Type 0 where

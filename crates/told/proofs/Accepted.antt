@@ -15,14 +15,14 @@ use Rattle.calls.specs.Run.{Runs}
 use Rattle.chart.specs.declared.Chart.{Chart}
 use Rattle.std.specs.Prelude.{Result, Ok, Err}
 use Rattle.calls.specs.declared.Refusal.{Refusal}
-use Rattle.store.specs.declared.Refusal as making
+use Rattle.store.specs.declared.Refusal as maker
+use Rattle.store.specs.declared.Refusal.TheVariants as making
 use Rattle.calls.specs.declared.Reported as written
 use Rattle.sitting_file.specs.Format.{read_of}
 use Rattle.sitting_file.specs.declared.Shape.{Shape}
 use Rattle.sitting_file.specs.Format.{Reading}
 use Rattle.writing.specs.Writing.{WritesFile, writing_outcome}
-use Rattle.writing.specs.declared.Writing.{Writing}
-use Rattle.writing.specs.declared.Writing.TheVariants as put
+use Rattle.writing.specs.Writing.{Writing}
 use Rattle.told.specs.Codes.{told_as, read_code}
 use Rattle.told.specs.Outputs.{left_after, rows_after, score_after, shape_after, length_after, seen_in, first_in, second_in, gap_in, seen_after, first_after, second_after, gap_after}
 use Rattle.told.specs.Told.{MakeTold, MoveTold, RunTold, RoomTold, ReportTold, ReadTold, WriteTold, ChartTold}
@@ -32,10 +32,10 @@ use Rattle.told.proofs.Numbers.{fault_above_zero, writing_above_zero, not_refuse
 pub made_accepted : {K : ℕ} {s t : List ℕ} → MakeTold K s 0 t → Makes K s (Ok tt) t
 made_accepted {K} {s} {t} m = go m.answer m.promise m.number
   where
-    go : (x : Result (Unit {0}) making.Refusal) → Makes K s x t → 0 ≡ refusal_of x → Makes K s (Ok tt) t
+    go : (x : Result (Unit {0}) maker.Refusal) → Makes K s x t → 0 ≡ refusal_of x → Makes K s (Ok tt) t
     go (Ok tt) p e = p
-    go making.RoomOutside p e = absurd (omega (arith, e))
-    go making.StoreShort p e = absurd (omega (arith, e))
+    go (Err making.RoomOutside) p e = absurd (omega (arith, e))
+    go (Err making.StoreShort) p e = absurd (omega (arith, e))
 
 -- ---- an opening, a feed or a closing
 module _ {s t : List ℕ} {c : Call rules} where
@@ -67,12 +67,13 @@ module _ {s : List ℕ} {old left : ℕ} where
 -- ---- a report
 module _ {s : List ℕ} {d place : ℕ} {before after : List ℕ} {old rows : ℕ} {was score : ℤ} where
   -- `rows` rows are on the sheet from row `place` on
-  pub report_accepted : ReportTold s d place 0 before after old rows was score → Reports s d place (written_of (written.Rows rows score) place after) before after
+  pub report_accepted : ReportTold s d place 0 before after old rows was score → Reports s d place (written_of (Ok (record { rows = rows; score = score })) place after) before after
   report_accepted m = go m.answer m.promise m.number m.row_count m.its_score
     where
       go : (x : Result written.Reported Refusal) → Reports s d place (written_of x place after) before after → 0 ≡ told_as (written_of x place after) → rows ≡ rows_after x old → score ≡ score_after x was
-          → Reports s d place (written_of (written.Rows rows score) place after) before after
-      go (written.Rows n z) p e f g = subst (λ (x : Result written.Reported Refusal). Reports s d place (written_of x place after) before after) (sym (ap₂ written.Rows f g)) p
+          → Reports s d place (written_of (Ok (record { rows = rows; score = score })) place after) before after
+      go (Ok r) p e f g =
+          subst (λ (x : Result written.Reported Refusal). Reports s d place (written_of x place after) before after) (sym (ap₂ {C = Result written.Reported Refusal} (λ (k : ℕ) (z : ℤ). Ok (record { rows = k; score = z })) f g)) p
       go (Err why) p e f g = not_refused why e
 
 -- ---- a chart question: the chart that was answered, and its outputs
@@ -114,5 +115,5 @@ module _ {A D : ℕ} {xs ys before after : List ℕ} {old size : ℕ} where
     where
       go : (x : Writing) → WritesFile A D xs ys before (writing_outcome x) after → 0 ≡ told_as (writing_outcome x) → size ≡ length_after (writing_outcome x) old
           → WritesFile A D xs ys before (answered size) after
-      go (put.Length n) p e f = subst (λ (k : ℕ). WritesFile A D xs ys before (answered k) after) (sym f) p
-      go (put.Refused why) p e f = absurd (omega (arith, writing_above_zero why, e))
+      go (Ok n) p e f = subst (λ (k : ℕ). WritesFile A D xs ys before (answered k) after) (sym f) p
+      go (Err why) p e f = absurd (omega (arith, writing_above_zero why, e))

@@ -50,7 +50,7 @@ module _ {s : List ℕ} {d place : ℕ} {before after : List ℕ} {old rows : �
     where
       go : (x : Result written.Reported Refusal) → Reports s d place (written_of x place after) before after → suc n ≡ told_as (written_of x place after) → rows ≡ rows_after x old → score ≡ score_after x was
           → Reports s d place (refused (suc n)) before after × (rows ≡ old) × (score ≡ was)
-      go (written.Rows k z) p e f g = absurd (omega (arith, e))
+      go (Ok r) p e f g = absurd (omega (arith, e))
       go (Err why) p e f g = (subst (λ (k : ℕ). Reports s d place (refused k) before after) (sym e) p, f, g)
 
 -- ---- a chart question

@@ -9,7 +9,7 @@ use Rattle.sitting_file.specs.Samples.{first_of, second_of}
 use Rattle.sitting_file.specs.Verdict.{Bytes}
 use Rattle.sitting_file.specs.declared.Shape.{Shape}
 use Rattle.sitting_file.specs.Format.{Reading}
-use Rattle.std.specs.Prelude.{Result, Ok, Err}
+use Rattle.std.specs.Prelude.{Ok}
 use Rattle.writing.specs.Writing.{writing_outcome}
 use Rattle.writing.specs.RoundTrips.{ReadsAs}
 use Rattle.writing.proofs.RoundTrip.{reads_back, writes_back}

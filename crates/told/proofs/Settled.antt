@@ -61,12 +61,12 @@ left_from (Err why) old = refl
 
 rows_from_lem : (x : Result written.Reported Refusal) (place : ℕ) (sheet : List ℕ) (old : ℕ) → rows_after x old ≡ from rows_in (written_of x place sheet) old
 unfolding from rows_in
-rows_from_lem (written.Rows n z) place sheet old = rows_read n (drop (row_width * place) sheet)
+rows_from_lem (Ok r) place sheet old = rows_read r.rows (drop (row_width * place) sheet)
 rows_from_lem (Err why) place sheet old = refl
 
 score_from : (x : Result written.Reported Refusal) (place : ℕ) (sheet : List ℕ) (old : ℤ) → score_after x old ≡ from score_in (written_of x place sheet) old
 unfolding from score_in
-score_from (written.Rows n z) place sheet old = refl
+score_from (Ok r) place sheet old = refl
 score_from (Err why) place sheet old = refl
 
 seen_from : (x : Result Chart Refusal) (old : ℕ) → seen_after x old ≡ from (charted (λ (t : Chart) (was : ℕ). seen_in t)) (charted_of x) old

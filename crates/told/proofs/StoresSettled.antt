@@ -11,7 +11,6 @@ use Rattle.calls.proofs.Settled.{SameMove, moves_settled}
 use Rattle.calls.proofs.RunSettled.{SameRun, runs_settled}
 use Rattle.told.specs.Codes.{told_as}
 use Rattle.told.specs.Told.{MakeTold, MoveTold, RunTold}
-use Rattle.std.specs.Prelude.{Result, Ok, Err}
 
 -- THEOREM. Two makings told to C have one number, and the same store as far as any call can ask; refused: the same numbers
 pub make_one : {K : ℕ} {s : List ℕ} {r q : ℕ} {x y : List ℕ} (m : MakeTold K s r x) (n : MakeTold K s q y) → (r ≡ q) × SameMaking K m.answer n.answer x y

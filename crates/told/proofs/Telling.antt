@@ -20,11 +20,25 @@ use Rattle.sitting_file.specs.Format.{Reading}
 use Rattle.writing.specs.Writing.{WritesFile, writing_outcome}
 use Rattle.writing.specs.Writing as writing
 use Rattle.writing.specs.declared.Refusal as writer
-use Rattle.writing.specs.declared.Writing.{Writing}
-use Rattle.writing.specs.declared.Writing.TheVariants as put
+use Rattle.writing.specs.Writing.{Writing}
 use Rattle.told.specs.Codes.{told_as, read_code}
 use Rattle.told.specs.Outputs.{left_after, rows_after, score_after, shape_after, length_after, seen_in, first_in, second_in, gap_in, seen_after, first_after, second_after, gap_after}
 use Rattle.told.specs.Told.{RoomTold, ReportTold, ReadTold, WriteTold, ChartTold}
+use Rattle.std.specs.Prelude.{MatchResult}
+use Rattle.store.specs.Making.{refusal_of}
+use Rattle.store.specs.Making as making
+use Rattle.store.specs.declared.Refusal as maker
+use Rattle.calls.specs.Refusals.{outcome_of}
+
+-- ---- THEOREM. What `code_of` promises is the number of a move's answer, or of how a run of feeds ended ..
+pub call_code : (answer : Result (Unit {0}) Refusal) (r : ℕ) → MatchResult answer (λ u. r ≡ 0) (λ why. r ≡ refusal_number why) → r ≡ told_as (outcome_of answer)
+call_code (Ok u) r e = e
+call_code (Err why) r e = e
+
+-- .. and of a making's
+pub making_code : (answer : Result (Unit {0}) maker.Refusal) (r : ℕ) → MatchResult answer (λ u. r ≡ 0) (λ why. r ≡ making.refusal_number why) → r ≡ refusal_of answer
+making_code (Ok u) r e = e
+making_code (Err why) r e = e
 
 -- ---- the room question
 module _ {s : List ℕ} {old : ℕ} (x : Result ℕ Refusal) (p : Asks s room_question (room_of x)) where
@@ -56,7 +70,7 @@ module _ {s : List ℕ} {d place : ℕ} {before after : List ℕ} {rows : ℕ} {
   }
 
   -- `stored` is what was written of the value
-  pub report_told : {count : ℕ} {value stored : ℤ} → x ≡ written.Rows count value → stored ≡ value → ReportTold s d place 0 before after rows count score stored
+  pub report_told : {r : written.Reported} {stored : ℤ} → x ≡ Ok r → stored ≡ r.score → ReportTold s d place 0 before after rows r.rows score stored
   report_told e z = record {
     answer = x;
     promise = p;
@@ -79,7 +93,7 @@ module _ {bytes old : List ℕ} (x : Reading) (p : x ≡ read_of bytes) where
 
 -- ---- a file written
 module _ {A D : ℕ} {xs ys before after : List ℕ} {old : ℕ} (x : Writing) (p : WritesFile A D xs ys before (writing_outcome x) after) where
-  pub write_refused : {why : writer.Refusal} {r : ℕ} → x ≡ put.Refused why → r ≡ writing.refusal_number why → WriteTold A D xs ys before r after old old
+  pub write_refused : {why : writer.Refusal} {r : ℕ} → x ≡ Err why → r ≡ writing.refusal_number why → WriteTold A D xs ys before r after old old
   write_refused e n = record {
     answer = x;
     promise = p;
@@ -87,7 +101,7 @@ module _ {A D : ℕ} {xs ys before after : List ℕ} {old : ℕ} (x : Writing) (
     output = sym (ap (λ (a : Writing). length_after (writing_outcome a) old) e);
   }
 
-  pub write_told : {size : ℕ} → x ≡ put.Length size → WriteTold A D xs ys before 0 after old size
+  pub write_told : {size : ℕ} → x ≡ Ok size → WriteTold A D xs ys before 0 after old size
   write_told e = record {
     answer = x;
     promise = p;

@@ -3,7 +3,7 @@ use Rattle.std.specs.Prelude.{ℕ}
 use Rattle.replay.specs.Table.{Outcome, refused, answered}
 use Rattle.sitting_file.specs.Format.{refusal_number}
 use Rattle.sitting_file.specs.Format.{Reading}
-use Rattle.std.specs.Prelude.{Result, Ok, Err}
+use Rattle.std.specs.Prelude.{Ok, Err}
 
 abbrev pub told_as : {Answer : Type 0} → Outcome Answer → ℕ
 told_as (answered x) = 0

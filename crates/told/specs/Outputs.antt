@@ -16,11 +16,11 @@ left_after (Err why) old = old
 
 -- a report's row count and score
 abbrev pub rows_after : Result written.Reported Refusal → ℕ → ℕ
-rows_after (written.Rows n score) old = n
+rows_after (Ok r) old = r.rows
 rows_after (Err why) old = old
 
 abbrev pub score_after : Result written.Reported Refusal → ℤ → ℤ
-score_after (written.Rows n score) old = score
+score_after (Ok r) old = r.score
 score_after (Err why) old = old
 
 -- A, D, n and m

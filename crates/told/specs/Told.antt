@@ -8,14 +8,13 @@ use Rattle.store.specs.Making.{Makes, refusal_of}
 use Rattle.calls.specs.Refusals.{outcome_of, room_of, written_of, charted_of}
 use Rattle.calls.specs.Promises.{Moves, Asks, Reports}
 use Rattle.calls.specs.Run.{Runs}
-use Rattle.std.specs.Prelude.{Result, Ok, Err}
+use Rattle.std.specs.Prelude.{Result}
 use Rattle.calls.specs.declared.Refusal.{Refusal}
 use Rattle.store.specs.declared.Refusal as making
 use Rattle.chart.specs.declared.Chart.{Chart}
 use Rattle.calls.specs.declared.Reported as written
 use Rattle.sitting_file.specs.Format.{read_of}
-use Rattle.writing.specs.Writing.{WritesFile, writing_outcome}
-use Rattle.writing.specs.declared.Writing.{Writing}
+use Rattle.writing.specs.Writing.{Writing, WritesFile, writing_outcome}
 use Rattle.salvage.specs.Salvage.{Saved, Salvages}
 use Rattle.told.specs.Codes.{told_as, read_code}
 use Rattle.told.specs.Outputs.{left_after, rows_after, score_after, shape_after, length_after, size_after, losses_after, seen_after, first_after, second_after, gap_after}

@@ -12,80 +12,63 @@ use placing::{put_byte, put_bytes};
 use sitting_file::HIGH_BIT;
 
 // Why a file is not written.
-#[derive(Clone, Copy)]
+#[derive(Clone, Copy, Debug, PartialEq, Eq)]
 pub enum Refusal {
     BadValues,
     BufferShort,
 }
 
-#[derive(Clone, Copy)]
-pub enum Writing {
-    // How many bytes the file has.
-    Length(usize),
-    Refused(Refusal),
+// Document 02's number of a refusal.
+impl From<Refusal> for u32 {
+    ghost from_gives = { λ why n. n ≡ refusal_number why };
+
+    fn from(why: Refusal) -> u32 {
+        match why {
+            Refusal::BadValues => 15,
+            Refusal::BufferShort => 19,
+        }
+    }
 }
 
-// Writes the file of a sitting at the start of the bytes lent. Those past its end stay.
-pub fn write(first: &[u8], second: &[u8], alphabet: u32, depth: u32, file: &mut [u8]) -> Writing
+// Writes the file of a sitting at the start of the bytes lent, and answers how many bytes it has. Those past its end stay.
+pub fn write(
+    first: &[u8],
+    second: &[u8],
+    alphabet: u32,
+    depth: u32,
+    file: &mut [u8],
+) -> Result<usize, Refusal>
     ensures { WritesFile alphabet depth first.now second.now file.old (writing_outcome result) file.new }
 {
     if !good_values(first, second, alphabet, depth) {
-        return Writing::Refused(Refusal::BadValues);
+        return Err(Refusal::BadValues);
     }
     if file.len() < file_size(first.len(), second.len()) {
-        return Writing::Refused(Refusal::BufferShort);
+        return Err(Refusal::BufferShort);
     }
     let size = put_file(first, second, alphabet, depth, file);
-    Writing::Length(size)
-}
-
-// Document 02's number of a refusal.
-pub fn refusal_number(why: Refusal) -> u32
-    ensures { result ≡ refusal_number why }
-{
-    match why {
-        Refusal::BadValues => 15,
-        Refusal::BufferShort => 19,
-    }
+    Ok(size)
 }
 
 // Whether A, D, the lengths and the symbols are within their limits.
+#[tactic(auto, unfolding(crate::specs::Writing::good_values))]
 fn good_values(first: &[u8], second: &[u8], alphabet: u32, depth: u32) -> bool
     ensures { result ≡ good_values alphabet depth first.now second.now }
 {
-    if alphabet < FEWEST_SYMBOLS {
-        return false;
-    }
-    if MOST_SYMBOLS < alphabet {
-        return false;
-    }
-    if DEEPEST < depth {
-        return false;
-    }
-    if (LONGEST as usize) < first.len() {
-        return false;
-    }
-    if (LONGEST as usize) < second.len() {
-        return false;
-    }
-    if all_below(first, alphabet) {
-        return all_below(second, alphabet);
-    }
-    false
+    FEWEST_SYMBOLS <= alphabet
+        && alphabet <= MOST_SYMBOLS
+        && depth <= DEEPEST
+        && first.len() <= LONGEST as usize
+        && second.len() <= LONGEST as usize
+        && all_below(first, alphabet)
+        && all_below(second, alphabet)
 }
 
 // Whether each symbol is below A.
 fn all_below(symbols: &[u8], alphabet: u32) -> bool
     ensures { result ≡ all_below alphabet symbols.now }
 {
-    let mut i = 0;
-    while i < symbols.len() {
-        if alphabet <= symbols[i] as u32 {
-            return false;
-        }
-        i += 1;
-    }
-    true
+    symbols.iter().all(|&a| u32::from(a) < alphabet)
 }
 
 // How many bytes the file of samples of n and m symbols has.
@@ -97,10 +80,11 @@ fn file_size(n: usize, m: usize) -> usize
 }
 
 // How many bytes a number's shortest form has.
+#[tactic(auto, unfolding(sitting_file::specs::Verdict::shortest))]
 fn number_size(number: usize) -> usize
     ensures { (result ≡ length (shortest number)) × (result ≤ 2) }
 {
-    if number < (HIGH_BIT as usize) { 1 } else { 2 }
+    if number < HIGH_BIT as usize { 1 } else { 2 }
 }
 
 // Puts a sitting's file at the start of bytes that have room for it, and answers its length.

@@ -1,13 +1,14 @@
 -- `salvage::save` meets its contract: the samples' bytes, what is kept of them, what is lost, and the writer's answer. Assumes nothing.
-use Rattle.std.proofs.Common.{ℕ, ◌≡◌, ◌+◌, ◌≤◌, List, length, take, drop, sym, ap, subst, ◌∙◌, arith, length-take}
+use Rattle.std.specs.Prelude.{◌-◌, Ok}
+use Rattle.std.proofs.Common.{ℕ, ◌≡◌, ◌+◌, ◌≤◌, List, length, take, drop, ap, ◌∙◌, arith, length-take}
 use Rattle.numbers.specs.Limits.{longest}
 use Rattle.sitting_file.specs.Format.{header_of}
 use Rattle.sitting_file.specs.Samples.{longest_header}
 use Rattle.sitting_file.specs.declared.Shape.{Shape}
-use Rattle.sitting_file.specs.declared.Heading.TheVariants.{Whole}
 use Rattle.sitting_file.proofs.Stages.{header_read}
-use Rattle.salvage.specs.Salvage.{kept_bytes, second_bytes, salvage_outcome, Within, Salvages}
-use Rattle.salvage.specs.declared.Salvaged.{Salvaged}
+use Rattle.salvage.specs.Salvage.{kept_bytes, second_bytes, salvaged_by, salvage_outcome, Within, Salvages}
+use Rattle.writing.specs.Writing.{Writing, writing_outcome, WritesFile}
+use Rattle.salvage.specs.declared.Gone.{Gone}
 use Rattle.salvage.proofs.Keeping.{kept_fits}
 use Rattle.salvage.proofs.Answers.{saved_by}
 use Rattle.salvage.proofs.Parts.{second_part, gone_told, lost_told, same_written}
@@ -18,7 +19,7 @@ module _ (damaged : List ℕ) (shape : Shape) (at : ℕ) where
   body = drop at damaged
 
   -- no sum of places wraps
-  end_small : header_of damaged ≡ Whole shape at → at + shape.first + shape.second ≤ longest_header + longest + longest
+  end_small : header_of damaged ≡ Ok (shape, at) → at + shape.first + shape.second ≤ longest_header + longest + longest
   end_small e =
       let read = header_read damaged shape at e in
       omega (arith, read.place, read.limits.first_high, read.limits.second_high)
@@ -50,19 +51,27 @@ overflow_add-at-2 c = record { fits = omega (arith, end_small c.args.damaged.now
 pub overflow_add-at-3 : goal.overflow_add-at-3
 overflow_add-at-3 c = record { fits = omega (arith, end_small c.args.damaged.now c.args.shape c.args.at c.requires) }
 
-pub returns : goal.returns
-returns c =
-    let damaged = c.args.damaged.now in
-    let shape = c.args.shape in
-    let at = c.args.at in
-    let us = c.part-first.ensures in
-    let vs = second damaged shape at _ c.part-second.ensures in
-    let xs = kept_of shape.alphabet _ _ _ us c.kept-first_kept.ensures in
-    let ys = kept_of shape.alphabet _ _ _ vs c.kept-second_kept.ensures in
-    let g = gone_told damaged shape at c.gone_of.result shape.first _ _ _ us xs c.gone_of.ensures in
-    let h = gone_told damaged shape at c.gone_of-2.result shape.second _ _ _ vs ys c.gone_of-2.ensures in
-    let lost = lost_told damaged shape at _ _ _ g h c.past.ensures in
-    let wrote = same_written damaged shape at _ _ _ _ _ xs ys c.write.ensures in
-    let after = c.write.new.file in
-    subst (λ (r : Salvaged). Salvages damaged c.args.file.now (salvage_outcome r after) after × Within r after) (sym c.salvaged_by.ensures)
-    (saved_by damaged shape at c.requires c.args.file.now after c.write.result _ lost wrote)
+-- what the code finds of the two samples and what the writer answers, put together
+module _ (damaged : List ℕ) (shape : Shape) (at : ℕ) (whole : header_of damaged ≡ Ok (shape, at)) where
+  told : (us xs vs ys : List ℕ) (g h : Gone) (cut : ℕ)
+      → us ≡ take shape.first (drop at damaged) → xs ≡ kept_bytes shape.alphabet us → vs ≡ take shape.second (drop (at + shape.first) damaged) → ys ≡ kept_bytes shape.alphabet vs
+      → (g.missing ≡ shape.first - length us) × (g.dropped ≡ length us - length xs) → (h.missing ≡ shape.second - length vs) × (h.dropped ≡ length vs - length ys)
+      → cut ≡ length damaged - (at + shape.first + shape.second) → (before after : List ℕ) (x : Writing) → WritesFile shape.alphabet shape.depth xs ys before (writing_outcome x) after
+      → Salvages damaged before (salvage_outcome (salvaged_by x (record { first = g; second = h; cut = cut })) after) after × Within (salvaged_by x (record { first = g; second = h; cut = cut })) after
+  told us xs vs ys g h cut us_there us_kept vs_there vs_kept us_gone vs_gone past before after x w =
+      let there = second damaged shape at vs vs_there in
+      let first_kept = kept_of shape.alphabet _ _ _ us_there us_kept in
+      let second_kept = kept_of shape.alphabet _ _ _ there vs_kept in
+      let first_gone = gone_told damaged shape at g shape.first _ us xs us_there first_kept us_gone in
+      let second_gone = gone_told damaged shape at h shape.second _ vs ys there second_kept vs_gone in
+      saved_by damaged shape at whole before after x _ (lost_told damaged shape at g h cut first_gone second_gone past) (same_written damaged shape at xs ys before after (writing_outcome x) first_kept second_kept w)
+
+pub returns-in-Ok : goal.returns-in-Ok
+returns-in-Ok c =
+    let w = told c.args.damaged.now c.args.shape c.args.at c.requires _ _ _ _ _ _ _ c.part-first.ensures c.kept-first_kept.ensures c.part-second.ensures c.kept-second_kept.ensures c.gone_of.ensures c.gone_of-2.ensures c.saturating_sub.ensures c.args.file.now _ c.write.result c.write.ensures in
+    rw c.in-Ok.is at w
+
+pub returns-in-Err : goal.returns-in-Err
+returns-in-Err c =
+    let w = told c.args.damaged.now c.args.shape c.args.at c.requires _ _ _ _ _ _ _ c.part-first.ensures c.kept-first_kept.ensures c.part-second.ensures c.kept-second_kept.ensures c.gone_of.ensures c.gone_of-2.ensures c.saturating_sub.ensures c.args.file.now _ c.write.result c.write.ensures in
+    rw c.in-Err.is at w
