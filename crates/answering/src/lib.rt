@@ -14,9 +14,12 @@ ghost use Rattle.judgement.specs.Answers.{Answers};
 ghost use Rattle.judgement.specs.Refusals.{numbered};
 ghost use Rattle.judgement.specs.Prints.{CanPrint, text_from, Prints, PrintsInput};
 
+mod streamed;
+
 use judgement::Refusal;
 use printing::{Head, TEXT_BYTES};
 use sitting_file::{INPUT_BYTES, Shape, judged_bytes};
+pub use streamed::answer_stream;
 
 // 2,048 + 24 times 256 numbers.
 pub const STORE_NUMBERS: usize = 8192;
