@@ -1,7 +1,7 @@
 // Opening and closing a desk, and the room question.
 #![tactic(auto)]
 
-ghost use Rattle.std.specs.Prelude.{◌≡◌, true, ℕ, ◌≤◌, ◌<◌, length};
+ghost use Rattle.std.specs.Prelude.{◌≡◌, true, ◌≤◌, ◌<◌, length};
 ghost use Rattle.numbers.specs.Limits.{desks};
 ghost use Rattle.replay.specs.Machine.{opening, closing, at_desk, room_question, outside_limits};
 ghost use Rattle.replay.specs.Room.{left, naming};
@@ -11,8 +11,10 @@ ghost use Rattle.store.specs.Meaning.{meaning};
 ghost use Rattle.calls.specs.Refusals.{outcome_of, room_of};
 ghost use Rattle.calls.specs.Promises.{Moves, Asks};
 ghost use Rattle.changes.specs.Changes.{fresh_desk, Openable, Opened, Closed};
+ghost use Rattle.desks.specs.Named.{opening_of};
 
 use calls::Refusal;
+use door::open_desk;
 use numbers::{DEEPEST, DESKS, FEWEST_SYMBOLS, MOST_SYMBOLS, MOST_WEIGHT};
 use recording::remove_desk;
 use soundness::{reserved, sound};
@@ -20,6 +22,15 @@ use store::layout::{
     DEPTH, DESK_NUMBERS, DESK_SIZE, FIRST_DESK, HEADER, OPEN, RESERVE, ROOM, SYMBOLS, USED, WEIGHT,
     field_at,
 };
+
+// What an opening names.
+#[derive(Clone, Copy)]
+struct Named {
+    alphabet: u32,
+    depth: u32,
+    weight: u32,
+    reservation: u32,
+}
 
 // Opens a desk for an alphabet, a depth and a weight in quarters, and reserves it room. Both samples are empty.
 pub fn open(
@@ -41,39 +52,34 @@ pub fn open(
     if field_at(store, desk as usize, OPEN) == 1 {
         return Err(Refusal::AlreadyOpen);
     }
-    if outside_limits(alphabet, depth) {
+    let named = Named {
+        alphabet,
+        depth,
+        weight,
+        reservation,
+    };
+    if outside_limits(named) {
         return Err(Refusal::OutsideLimits);
     }
     if MOST_WEIGHT < weight {
         return Err(Refusal::WeightOutside);
     }
-    open_reserving(store, desk, alphabet, depth, weight, reservation)
+    open_reserving(store, desk, named)
 }
 
 // Refusal 6 or 7, or the opening: what the other refusals left.
-fn open_reserving(
-    store: &mut [u32],
-    desk: u32,
-    alphabet: u32,
-    depth: u32,
-    weight: u32,
-    reservation: u32,
-) -> Result<(), Refusal>
-    requires { Openable store.old desk (naming alphabet depth weight reservation) }
-    ensures { Moves store.old (at_desk desk (opening (naming alphabet depth weight reservation))) (outcome_of result) store.new }
+fn open_reserving(store: &mut [u32], desk: u32, named: Named) -> Result<(), Refusal>
+    requires { Openable store.old desk (opening_of named) }
+    ensures { Moves store.old (at_desk desk (opening (opening_of named))) (outcome_of result) store.new }
 {
-    if reservation == 0 {
-        return Err(Refusal::BadReservation);
-    }
-    let room = store[ROOM];
-    if room < reservation {
+    if named.reservation == 0 || store[ROOM] < named.reservation {
         return Err(Refusal::BadReservation);
     }
     let free = left_in(store);
-    if free < reservation {
+    if free < named.reservation {
         return Err(Refusal::NoRoom);
     }
-    set_up(store, desk as usize, alphabet, depth, weight, reservation);
+    set_up(store, desk as usize, named);
     Ok(())
 }
 
@@ -81,15 +87,7 @@ fn open_reserving(
 pub fn close(store: &mut [u32], desk: u32) -> Result<(), Refusal>
     ensures { Moves store.old (at_desk desk closing) (outcome_of result) store.new }
 {
-    if !sound(store) {
-        return Err(Refusal::Unsound);
-    }
-    if DESKS <= desk as usize {
-        return Err(Refusal::NoSuchDesk);
-    }
-    if field_at(store, desk as usize, OPEN) != 1 {
-        return Err(Refusal::NotOpen);
-    }
+    open_desk(store, desk)?;
     shut(store, desk);
     Ok(())
 }
@@ -98,23 +96,19 @@ pub fn close(store: &mut [u32], desk: u32) -> Result<(), Refusal>
 pub fn room_left(store: &[u32]) -> Result<u32, Refusal>
     ensures { Asks store.now room_question (room_of result) }
 {
-    if !sound(store) {
-        return Err(Refusal::Unsound);
+    if sound(store) {
+        Ok(left_in(store))
+    } else {
+        Err(Refusal::Unsound)
     }
-    Ok(left_in(store))
 }
 
 // Whether an alphabet or a depth is outside its limits.
-fn outside_limits(alphabet: u32, depth: u32) -> bool
-    ensures { (weight reserve : ℕ) → result ≡ outside_limits (naming alphabet depth weight reserve) }
+#[tactic(auto, unfolding(replay::specs::Machine::outside_limits))]
+fn outside_limits(named: Named) -> bool
+    ensures { result ≡ outside_limits (opening_of named) }
 {
-    if alphabet < FEWEST_SYMBOLS {
-        return true;
-    }
-    if MOST_SYMBOLS < alphabet {
-        return true;
-    }
-    DEEPEST < depth
+    named.alphabet < FEWEST_SYMBOLS || MOST_SYMBOLS < named.alphabet || DEEPEST < named.depth
 }
 
 // The room of a sound store, less the reservations of its open desks.
@@ -126,30 +120,26 @@ fn left_in(store: &[u32]) -> u32
 }
 
 // Writes the numbers of a desk that opens.
-fn set_up(store: &mut [u32], desk: usize, alphabet: u32, depth: u32, weight: u32, reservation: u32)
+fn set_up(store: &mut [u32], desk: usize, named: Named)
     requires { (header_size ≤ length store.old) × (desk < desks) }
-    ensures { Opened store.old store.new desk (naming alphabet depth weight reservation) }
+    ensures { Opened store.old store.new desk (opening_of named) }
 {
     let from = FIRST_DESK + DESK_SIZE * desk;
     let to = from + DESK_NUMBERS;
-    lay_out(&mut store[from..to], alphabet, depth, weight, reservation);
+    lay_out(&mut store[from..to], named);
 }
 
 // The numbers of a desk that opens, over the whole part.
-fn lay_out(part: &mut [u32], alphabet: u32, depth: u32, weight: u32, reservation: u32)
+fn lay_out(part: &mut [u32], named: Named)
     requires { length part.old ≡ desk_numbers }
-    ensures { part.new ≡ fresh_desk (naming alphabet depth weight reservation) }
+    ensures { part.new ≡ fresh_desk (opening_of named) }
 {
-    let mut i: usize = 0;
-    while i < DESK_NUMBERS {
-        part[i] = 0;
-        i = i + 1;
-    }
+    part.fill(0);
     part[OPEN] = 1;
-    part[SYMBOLS] = alphabet;
-    part[DEPTH] = depth;
-    part[WEIGHT] = weight;
-    part[RESERVE] = reservation;
+    part[SYMBOLS] = named.alphabet;
+    part[DEPTH] = named.depth;
+    part[WEIGHT] = named.weight;
+    part[RESERVE] = named.reservation;
 }
 
 // Takes a desk's records out of a sound store and marks it closed.

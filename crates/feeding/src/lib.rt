@@ -12,10 +12,11 @@ ghost use Rattle.changes.specs.FedStore.{Judged, recent_at, is_counted};
 ghost use Rattle.calls.specs.Run.{Runs};
 
 use calls::{Fed, Refusal};
+use door::open_at;
 use entering::{is_counted, is_past, recent_of, seek_in, write_feed, write_header};
-use numbers::{DESKS, LONGEST};
+use numbers::LONGEST;
 use soundness::sound;
-use store::layout::{OPEN, SIZE_FIRST, SYMBOLS, field_at};
+use store::layout::{SIZE_FIRST, SYMBOLS, field_at};
 
 // One more symbol of a sample at a desk.
 pub fn feed(store: &mut [u32], desk: u32, sample: u32, symbol: u32) -> Result<(), Refusal>
@@ -45,22 +46,16 @@ fn feed_run(store: &mut [u32], desk: u32, sample: u32, symbols: &[u8]) -> Fed
     requires { soundb store.old ≡ true }
     ensures { Runs store.old desk sample symbols.now result.accepted (outcome_of result.ending) store.new }
 {
-    let mut done: usize = 0;
-    while done < symbols.len() {
-        match feed_sound(store, desk, sample, symbols[done] as u32) {
-            Ok(()) => {
-                done = done + 1;
-            }
-            Err(why) => {
-                return Fed {
-                    accepted: done,
-                    ending: Err(why),
-                };
-            }
+    for (done, &symbol) in symbols.iter().enumerate() {
+        if let Err(why) = feed_sound(store, desk, sample, u32::from(symbol)) {
+            return Fed {
+                accepted: done,
+                ending: Err(why),
+            };
         }
     }
     Fed {
-        accepted: done,
+        accepted: symbols.len(),
         ending: Ok(()),
     }
 }
@@ -70,20 +65,11 @@ fn feed_sound(store: &mut [u32], desk: u32, sample: u32, symbol: u32) -> Result<
     requires { soundb store.old ≡ true }
     ensures { Moves store.old (at_desk desk (asking (feed sample symbol))) (outcome_of result) store.new }
 {
-    let d = desk as usize;
-    if DESKS <= d {
-        return Err(Refusal::NoSuchDesk);
-    }
-    if field_at(store, d, OPEN) != 1 {
-        return Err(Refusal::NotOpen);
-    }
-    if 1 < sample {
+    let at = open_at(store, desk)?;
+    if 1 < sample || field_at(store, at, SYMBOLS) <= symbol {
         return Err(Refusal::NotOfSitting);
     }
-    if field_at(store, d, SYMBOLS) <= symbol {
-        return Err(Refusal::NotOfSitting);
-    }
-    if LONGEST <= field_at(store, d, SIZE_FIRST + sample as usize) {
+    if LONGEST <= field_at(store, at, SIZE_FIRST + sample as usize) {
         return Err(Refusal::SampleFull);
     }
     feed_judged(store, desk, sample, symbol)

@@ -12,40 +12,21 @@ ghost use Rattle.rows.specs.Rows as rows;
 ghost use Rattle.report.specs.Desk.{desk_in, CanReportOn, WeighedDesk, DecidedDesk};
 
 use calls::{Refusal, Reported};
-use numbers::{DESKS, MOST_ROOM, ROW_WIDTH};
-use store::layout::{
-    DEPTH, HEADER, OPEN, SIZE_FIRST, SIZE_SECOND, SYMBOLS, USED, WEIGHT, field_at,
-};
+use door::open_desk;
+use numbers::{MOST_ROOM, ROW_WIDTH};
+use store::layout::{DEPTH, HEADER, SIZE_FIRST, SIZE_SECOND, SYMBOLS, USED, WEIGHT, field_at};
 use weighing::{Desk, Least};
 
 // Writes a desk's report on the sheet, from row `place` on.
 pub fn report(store: &[u32], desk: u32, sheet: &mut [u32], place: u32) -> Result<Reported, Refusal>
     ensures { Reports store.now desk place (written_of result place sheet.new) sheet.old sheet.new }
 {
-    if !soundness::sound(store) {
-        return Err(Refusal::Unsound);
-    }
-    let d = desk as usize;
-    if DESKS <= d {
-        return Err(Refusal::NoSuchDesk);
-    }
-    if field_at(store, d, OPEN) != 1 {
-        return Err(Refusal::NotOpen);
-    }
+    open_desk(store, desk)?;
     let at = desk_in(store, desk);
-    let n = at.n;
-    let m = at.m;
-    if n == 0 {
+    if at.n == 0 || at.m == 0 {
         return Err(Refusal::SampleEmpty);
     }
-    if m == 0 {
-        return Err(Refusal::SampleEmpty);
-    }
-    let depth = at.depth;
-    if n <= depth {
-        return Err(Refusal::SampleShort);
-    }
-    if m <= depth {
+    if at.n <= at.depth || at.m <= at.depth {
         return Err(Refusal::SampleShort);
     }
     report_on(store, at, sheet, place)

@@ -60,7 +60,7 @@ pub returns-then-outside_limits : goal.returns-then-outside_limits
 returns-then-outside_limits c =
     let x = c.args in
     let o = naming x.alphabet x.depth x.weight x.reservation in
-    moves_refused x.store.now (at_desk x.desk (opening o)) 5 (passed (goal.at.returns-then-outside_limits c).Else-not-sound) (outside (meaning x.store.now) x.desk o c.if-desk-ge-DESKS.false (shut_there x.store.now x.desk (shut (goal.at.returns-then-outside_limits c).Else-field_at-eq1)) (sym (c.outside_limits.ensures x.weight x.reservation) ∙ c.if-outside_limits.true))
+    moves_refused x.store.now (at_desk x.desk (opening o)) 5 (passed (goal.at.returns-then-outside_limits c).Else-not-sound) (outside (meaning x.store.now) x.desk o c.if-desk-ge-DESKS.false (shut_there x.store.now x.desk (shut (goal.at.returns-then-outside_limits c).Else-field_at-eq1)) (sym c.outside_limits.ensures ∙ c.if-outside_limits.true))
 
 pub returns-then-weight-gt-MOST_WEIGHT : goal.returns-then-weight-gt-MOST_WEIGHT
 unfolding weight_outside
@@ -69,7 +69,7 @@ returns-then-weight-gt-MOST_WEIGHT c =
     let o = naming x.alphabet x.depth x.weight x.reservation in
     moves_refused x.store.now (at_desk x.desk (opening o)) 20 (passed (goal.at.returns-then-weight-gt-MOST_WEIGHT c).Else-not-sound)
     (heavy (meaning x.store.now) x.desk o c.if-desk-ge-DESKS.false (shut_there x.store.now x.desk (shut (goal.at.returns-then-weight-gt-MOST_WEIGHT c).Else-field_at-eq1))
-    (sym (c.outside_limits.ensures x.weight x.reservation) ∙ c.if-outside_limits.false) (lt-ltb most_weight x.weight c.if-weight-gt-MOST_WEIGHT.true))
+    (sym c.outside_limits.ensures ∙ c.if-outside_limits.false) (lt-ltb most_weight x.weight c.if-weight-gt-MOST_WEIGHT.true))
 
 pub open_reserving-requires : goal.open_reserving-requires
 unfolding weight_outside
@@ -79,6 +79,6 @@ open_reserving-requires c =
       sound = passed (goal.at.open_reserving-requires c).Else-not-sound;
       desk = c.if-desk-ge-DESKS.false;
       shut = shut (goal.at.open_reserving-requires c).Else-field_at-eq1;
-      limits = sym (c.outside_limits.ensures x.weight x.reservation) ∙ c.if-outside_limits.false;
+      limits = sym c.outside_limits.ensures ∙ c.if-outside_limits.false;
       weight = le-ltb most_weight x.weight c.if-weight-gt-MOST_WEIGHT.false;
     }
