@@ -125,8 +125,9 @@ fn number_at(file: &[u8], at: usize, low: u32, high: u32) -> Result<(u32, usize)
 fn judged(low: u32, high: u32, value: u32, next: usize) -> Result<(u32, usize), Refusal>
     ensures { result ≡ judged_number low high value next }
 {
-    if value < low || high < value {
-        return Err(Refusal::OutsideLimits);
+    if (low..=high).contains(&value) {
+        Ok((value, next))
+    } else {
+        Err(Refusal::OutsideLimits)
     }
-    Ok((value, next))
 }

@@ -1,15 +1,15 @@
 // Writes sitting files: A, D, n and m in their shortest forms, then the symbols, a byte each.
 #![tactic(auto)]
 
-ghost use Rattle.std.specs.Prelude.{◌≡◌, [], ◌∷◌, ◌+◌, ◌<◌, ◌≤◌, T, length};
-ghost use Rattle.numbers.specs.Limits.{longest};
+ghost use Rattle.std.specs.Prelude.{◌≡◌, [], ◌++◌, ◌+◌, ◌<◌, ◌≤◌, length};
 ghost use Rattle.placing.specs.Placing.{HasRoom, Puts};
-ghost use Rattle.sitting_file.specs.Verdict.{two_groups, shortest, written};
-ghost use Rattle.writing.specs.Writing.{file_of, all_below, good_values, refusal_number, writing_outcome, WritesFile};
+ghost use Rattle.sitting_file.specs.Samples.{InLimits, Below};
+ghost use Rattle.sitting_file.specs.Verdict.{two_groups, shortest, written, with_header};
+ghost use Rattle.writing.specs.Writing.{all_below, good_values, refusal_number, writing_outcome, WritesFile};
 
 use numbers::{DEEPEST, FEWEST_SYMBOLS, LONGEST, MOST_SYMBOLS};
 use placing::{put_byte, put_bytes};
-use sitting_file::HIGH_BIT;
+use sitting_file::{HIGH_BIT, Shape};
 
 // Why a file is not written.
 #[derive(Clone, Copy, Debug, PartialEq, Eq)]
@@ -43,10 +43,16 @@ pub fn write(
     if !good_values(first, second, alphabet, depth) {
         return Err(Refusal::BadValues);
     }
-    if file.len() < file_size(first.len(), second.len()) {
+    let shape = Shape {
+        alphabet,
+        depth,
+        first: first.len() as u32,
+        second: second.len() as u32,
+    };
+    if file.len() < file_size(shape) {
         return Err(Refusal::BufferShort);
     }
-    let size = put_file(first, second, alphabet, depth, file);
+    let size = put_file(file, shape, first, second);
     Ok(size)
 }
 
@@ -55,8 +61,7 @@ pub fn write(
 fn good_values(first: &[u8], second: &[u8], alphabet: u32, depth: u32) -> bool
     ensures { result ≡ good_values alphabet depth first.now second.now }
 {
-    FEWEST_SYMBOLS <= alphabet
-        && alphabet <= MOST_SYMBOLS
+    (FEWEST_SYMBOLS..=MOST_SYMBOLS).contains(&alphabet)
         && depth <= DEEPEST
         && first.len() <= LONGEST as usize
         && second.len() <= LONGEST as usize
@@ -71,58 +76,52 @@ fn all_below(symbols: &[u8], alphabet: u32) -> bool
     symbols.iter().all(|&a| u32::from(a) < alphabet)
 }
 
-// How many bytes the file of samples of n and m symbols has.
-fn file_size(n: usize, m: usize) -> usize
-    requires { (n ≤ longest) × (m ≤ longest) }
-    ensures { result ≡ 2 + (length (shortest n) + length (shortest m)) + (n + m) }
+// How many bytes the file of such samples has. A and D have a byte each.
+fn file_size(shape: Shape) -> usize
+    requires { InLimits shape }
+    ensures { result ≡ 2 + (length (shortest shape.first) + length (shortest shape.second)) + (shape.first + shape.second) }
 {
-    2 + (number_size(n) + number_size(m)) + (n + m)
+    2 + number_size(shape.first) + number_size(shape.second) + (shape.first + shape.second) as usize
 }
 
 // How many bytes a number's shortest form has.
 #[tactic(auto, unfolding(sitting_file::specs::Verdict::shortest))]
-fn number_size(number: usize) -> usize
-    ensures { (result ≡ length (shortest number)) × (result ≤ 2) }
+fn number_size(value: u32) -> usize
+    ensures { (result ≡ length (shortest value)) × (result ≤ 2) }
 {
-    if number < HIGH_BIT as usize { 1 } else { 2 }
+    if value < HIGH_BIT { 1 } else { 2 }
 }
 
 // Puts a sitting's file at the start of bytes that have room for it, and answers its length.
-fn put_file(first: &[u8], second: &[u8], alphabet: u32, depth: u32, file: &mut [u8]) -> usize
-    requires { T (good_values alphabet depth first.now second.now) × HasRoom (file_of alphabet depth first.now second.now) 0 file.old }
-    ensures { Puts (file_of alphabet depth first.now second.now) 0 file.old file.new result }
+fn put_file(file: &mut [u8], shape: Shape, first: &[u8], second: &[u8]) -> usize
+    requires { InLimits shape × Below shape.alphabet first.now × Below shape.alphabet second.now × HasRoom (written (with_header shape (first.now ++ second.now))) 0 file.old }
+    ensures { Puts (written (with_header shape (first.now ++ second.now))) 0 file.old file.new result }
 {
-    let at = put_header(
-        file,
-        alphabet as usize,
-        depth as usize,
-        first.len(),
-        second.len(),
-    );
+    let at = put_header(file, shape);
     let middle = put_bytes(file, at, first);
     put_bytes(file, middle, second)
 }
 
 // Puts the four numbers of a header at the start, and answers the place after them.
-fn put_header(file: &mut [u8], alphabet: usize, depth: usize, n: usize, m: usize) -> usize
-    requires { (alphabet < two_groups) × (depth < two_groups) × (n < two_groups) × (m < two_groups) × HasRoom (written (alphabet ∷ depth ∷ n ∷ m ∷ [])) 0 file.old }
-    ensures { Puts (written (alphabet ∷ depth ∷ n ∷ m ∷ [])) 0 file.old file.new result }
+fn put_header(file: &mut [u8], shape: Shape) -> usize
+    requires { InLimits shape × HasRoom (written (with_header shape [])) 0 file.old }
+    ensures { Puts (written (with_header shape [])) 0 file.old file.new result }
 {
-    let past_alphabet = put_number(file, 0, alphabet);
-    let past_depth = put_number(file, past_alphabet, depth);
-    let past_n = put_number(file, past_depth, n);
-    put_number(file, past_n, m)
+    let past_alphabet = put_number(file, 0, shape.alphabet);
+    let past_depth = put_number(file, past_alphabet, shape.depth);
+    let past_first = put_number(file, past_depth, shape.first);
+    put_number(file, past_first, shape.second)
 }
 
 // Puts a number in its shortest form at a place, and answers the place after it.
-fn put_number(file: &mut [u8], at: usize, number: usize) -> usize
+#[tactic(auto, using(placing::proofs::Laws::room_front, placing::proofs::Laws::room_back, placing::proofs::Laws::puts_then), unfolding(sitting_file::specs::Verdict::shortest))]
+fn put_number(file: &mut [u8], at: usize, number: u32) -> usize
     requires { (number < two_groups) × HasRoom (shortest number) at file.old }
     ensures { Puts (shortest number) at file.old file.new result }
 {
-    let group = HIGH_BIT as usize;
-    if number < group {
+    if number < HIGH_BIT {
         return put_byte(file, at, number as u8);
     }
-    let next = put_byte(file, at, (group + number % group) as u8);
-    put_byte(file, next, (number / group) as u8)
+    let next = put_byte(file, at, (HIGH_BIT + number % HIGH_BIT) as u8);
+    put_byte(file, next, (number / HIGH_BIT) as u8)
 }

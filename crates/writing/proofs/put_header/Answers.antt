@@ -15,17 +15,18 @@ module _ (v : ℕ) (vs : List ℕ) (at : ℕ) (a : List ℕ) (room : HasRoom (wr
 
 pub returns : goal.returns
 returns c =
-    let s = c.args in
-    let left₃ = s.m ∷ [] in
-    let left₂ = s.n ∷ left₃ in
+    let s = c.args.shape in
+    let file = c.args.file.now in
+    let left₃ = s.second ∷ [] in
+    let left₂ = s.first ∷ left₃ in
     let left₁ = s.depth ∷ left₂ in
     let p₁ = c.put_number-past_alphabet.ensures in
     let p₂ = c.put_number-past_depth.ensures in
-    let p₃ = c.put_number-past_n.ensures in
-    let room₁ = back s.alphabet left₁ 0 s.file.now c.requires.4 _ _ p₁ in
+    let p₃ = c.put_number-past_first.ensures in
+    let room₁ = back s.alphabet left₁ 0 file c.requires.1 _ _ p₁ in
     let room₂ = back s.depth left₂ _ _ room₁ _ _ p₂ in
-    let room₃ = back s.n left₃ _ _ room₂ _ _ p₃ in
-    then s.alphabet left₁ 0 s.file.now c.requires.4 _ _ p₁ _ _
+    let room₃ = back s.first left₃ _ _ room₂ _ _ p₃ in
+    then s.alphabet left₁ 0 file c.requires.1 _ _ p₁ _ _
     (then s.depth left₂ _ _ room₁ _ _ p₂ _ _
-    (then s.n left₃ _ _ room₂ _ _ p₃ _ _
-    (then s.m [] _ _ room₃ _ _ c.put_number.ensures _ _ (puts_none _ _))))
+    (then s.first left₃ _ _ room₂ _ _ p₃ _ _
+    (then s.second [] _ _ room₃ _ _ c.put_number.ensures _ _ (puts_none _ _))))
