@@ -1,9 +1,5 @@
 -- `printing::put_line` meets its contract: after i turns the first i numbers are put, each with its blank. Assumes nothing.
 use native.Mathlib.Omega.{arith}
-use mathlib.Core.List.{[], ◌∷◌, ◌++◌, map}
-use lib.IntN.{pos}
-use Rattle.printing.specs.Text.{line_of}
-use Rattle.placing.proofs.Laws.{puts_length, puts_none}
 use Rattle.printing.proofs.Decimals.{std_digits, std_signed}
 use Rattle.printing.proofs.Lines.{Begun, room_number, room_blank, puts_number, room_end, room_feed, puts_line}
 use Rattle.printing.proofs.put_line.Goals as goal
@@ -11,9 +7,6 @@ use Rattle.printing.proofs.put_line.Goals.{At-loop-number}
 
 begun : (l : At-loop-number) → Begun l.args.numbers.now l.args.last l.args.at l.args.buffer.now l.loop-number.number-index l.loop-number.buffer l.loop-number.next
 begun l = record { room = l.requires; so_far = l.loop-number.invariant }
-
-pub loop-number-init : goal.loop-number-init
-loop-number-init c = puts_none _ _
 
 pub put_number-end-requires : goal.put_number-end-requires
 put_number-end-requires c =
@@ -38,7 +31,3 @@ put_byte-requires c =
 pub returns : goal.returns
 returns c =
     puts_line (begun (goal.at.returns c).At-loop-number) c.loop-number-test.false _ (std_signed c.args.last c.ranges.last) _ _ c.put_number-end-2.ensures _ _ c.put_byte.ensures
-
-pub shape_of-buffer : goal.shape_of-buffer
-shape_of-buffer c =
-    puts_length (line_of (map pos c.args.numbers.now ++ (c.args.last ∷ []))) c.args.at c.args.buffer.now c.requires _ _ (returns c)

@@ -8,7 +8,7 @@ use mathlib.Core.List.{[], ◌∷◌, ◌++◌}
 use lib.ListN.{length, drop, length-append, length-drop}
 use Rattle.numbers.specs.Limits.{row_width}
 use Rattle.printing.specs.Text.{row_at, rows_text}
-use Rattle.placing.proofs.Laws.{puts_length, puts_none}
+use Rattle.placing.proofs.Laws.{puts_none}
 use Rattle.printing.proofs.Reports.{row_lent, rows_left, Begun, row_long, room_row, puts_row}
 use Rattle.printing.proofs.put_rows.Goals as goal
 use Rattle.printing.proofs.put_rows.Goals.{At-loop-row, In-Some}
@@ -65,6 +65,3 @@ returns c =
     ] in
     let e : length c.loop-row.yielded ≡ c.args.rows = omega (arith, none, c.loop-row.invariant.more) in
     rw (← e) c.loop-row.invariant.so_far
-
-pub shape_of-buffer : goal.shape_of-buffer
-shape_of-buffer c = puts_length (rows_text c.args.alphabet c.args.rows c.args.sheet.now) c.args.at c.args.buffer.now c.requires.has_room _ _ (returns c)
