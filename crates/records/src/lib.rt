@@ -157,22 +157,14 @@ fn reach(numbers: &[u32], n: usize, from: usize, key: u32) -> Bounds
     Bounds { low, high: n }
 }
 
-// The place of a key that stands between two places: by halving.
+// The place of a key that stands between two places: by halving, which is how `partition_point` goes.
 fn halve(numbers: &[u32], n: usize, bounds: Bounds, key: u32) -> usize
     requires { Bounded key n bounds.low bounds.high numbers.now }
     ensures { Placed key n result numbers.now }
 {
-    let mut low = bounds.low;
-    let mut high = bounds.high;
-    while low < high {
-        let middle = low + (high - low) / 2;
-        if numbers[WIDTH * middle] < key {
-            low = middle + 1;
-        } else {
-            high = middle;
-        }
-    }
-    low
+    let (whole, _) = numbers.as_chunks::<WIDTH>();
+    let between = &whole[bounds.low..bounds.high];
+    bounds.low + between.partition_point(|held| held[0] < key)
 }
 
 // Whether the record at a key's place has it.
