@@ -24,6 +24,7 @@ use store::layout::{
 };
 
 // The symbols of a sample that a counted one follows, most recent first: the first `many` of six.
+// A copy in fixed memory (the project's rule: no heap), since the store that they stand in is written while they are read.
 #[derive(Clone, Copy)]
 pub struct Latest {
     pub symbols: [u32; 6],

@@ -1,6 +1,7 @@
 pub mod Parts
 pub mod Lent
 pub mod Rising
+pub mod Halving
 pub mod Finding
 pub mod Ranked
 pub mod Cells

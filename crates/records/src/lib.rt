@@ -63,6 +63,7 @@ impl Sample {
 
 // Where the contexts that a symbol follows stand: how many of them are held, and their places. Where one is not held, its place comes after those.
 // The other places are 0.
+// Seven in fixed memory (the project's rule: no heap), and `found` beside them: it says which are held, and is not how many places are told.
 #[derive(Clone, Copy)]
 pub struct Sought {
     pub found: usize,
@@ -140,7 +141,7 @@ pub fn table_of(numbers: &[u32], n: usize, key: u32) -> [[u32; 8]; 2]
     }
 }
 
-// Between which places a key stands, from a place on: by doubling the way.
+// Between which places a key stands, from a place on: by doubling the way. A `while`: no method of a slice searches from one end so.
 fn reach(numbers: &[u32], n: usize, from: usize, key: u32) -> Bounds
     requires { Onward key n from numbers.now }
     ensures { Bounded key n result.low result.high numbers.now }
@@ -157,22 +158,14 @@ fn reach(numbers: &[u32], n: usize, from: usize, key: u32) -> Bounds
     Bounds { low, high: n }
 }
 
-// The place of a key that stands between two places: by halving.
+// The place of a key that stands between two places: by halving, which is how `partition_point` goes.
 fn halve(numbers: &[u32], n: usize, bounds: Bounds, key: u32) -> usize
     requires { Bounded key n bounds.low bounds.high numbers.now }
     ensures { Placed key n result numbers.now }
 {
-    let mut low = bounds.low;
-    let mut high = bounds.high;
-    while low < high {
-        let middle = low + (high - low) / 2;
-        if numbers[WIDTH * middle] < key {
-            low = middle + 1;
-        } else {
-            high = middle;
-        }
-    }
-    low
+    let (whole, _) = numbers.as_chunks::<WIDTH>();
+    let between = &whole[bounds.low..bounds.high];
+    bounds.low + between.partition_point(|held| held[0] < key)
 }
 
 // Whether the record at a key's place has it.

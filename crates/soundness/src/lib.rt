@@ -49,6 +49,7 @@ const MARKS: usize = 9;
 
 // The pass. `p` and `q` have, for each length, the mark of the last record so long in each sample, one place on;
 // `tally` the number of each desk's records.
+// Two names and no array of two: each test below names the mark of the first sample and of the second once, as `step_ok` does.
 fn pass(store: &[u32], body: &[u32], many: usize) -> bool
     requires { (header_size ≤ length store.now) × (width * many ≤ length body.now) × (many ≤ most_room) }
     ensures { result ≡ passb store.now (records many body.now) }
