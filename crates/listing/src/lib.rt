@@ -8,7 +8,7 @@ ghost use Rattle.records.specs.Records.{records, lookup};
 ghost use Rattle.records.specs.Held.{count_table};
 ghost use Rattle.rows.specs.Members.{number};
 ghost use Rattle.rows.specs.Kinds.{told};
-ghost use Rattle.listing.specs.Plans.{goes_on, own_plan, plan_of};
+ghost use Rattle.listing.specs.Plans.{goes_on, own_plan, plan_by};
 ghost use Rattle.listing.specs.Writing.{WroteAt, numbers_if, numbers_here, Roomy, rows_from, CanWrite, Readable, WroteNumbers, kept_mark, kept_plan, CanReport, Listed};
 
 use estimate::ByKind;
@@ -16,7 +16,7 @@ use logarithm::LentLogs;
 use numbers::ROW_WIDTH;
 use records::{DESK_SPAN, stands};
 use rows::Kind;
-use weighing::{Desk, leaf_mark};
+use weighing::{Choice, Desk, Mark, leaf_mark};
 
 // Writes the rows of a desk's report at the beginning of the sheet, by the decisions that `weigh` kept beside the records.
 pub fn write_rows(
@@ -140,7 +140,7 @@ impl Listing<'_> {
         requires { Roomy (length sheet.old) to (length (numbers_here (kept_plan self.now.n self.now.numbers.now self.now.kept.now self.now.costs spot) len spot.code (count_table (lookup spot.key (records self.now.n self.now.numbers.now))))) (count_table (lookup spot.key (records self.now.n self.now.numbers.now))) }
         ensures { WroteNumbers self.now.n self.now.numbers.now self.now.kept.now self.now.costs sheet.old sheet.new spot len to result }
     {
-        let plan = plan_of(spot.way, self.mark_of(spot.key));
+        let plan = plan_of(spot.way, Mark::from(self.mark_of(spot.key)));
         let counts = records::table_of(self.numbers, self.n, spot.key);
         let here = Here {
             len,
@@ -202,17 +202,15 @@ fn put_if(sheet: &mut [u32], to: usize, on: bool, kind: Kind, here: &Here) -> us
     past
 }
 
-// The decision read back.
-fn plan_of(way: Way, mark: u8) -> Plan
-    ensures { result ≡ plan_of way mark }
+// The rows that a decision gives, and what is wanted of the children.
+fn plan_of(way: Way, mark: Mark) -> Plan
+    ensures { result ≡ plan_by way mark }
 {
-    let first = mark / 3 % 2 == 1;
-    let second = mark / 6 == 1;
     if !way.joint {
-        return own_plan(way.first, way.second, first, second);
+        return own_plan(way.first, way.second, mark.first, mark.second);
     }
-    match mark % 3 {
-        0 => Plan {
+    match mark.joint {
+        Choice::Shared => Plan {
             shared: true,
             first: false,
             second: false,
@@ -222,8 +220,8 @@ fn plan_of(way: Way, mark: u8) -> Plan
                 second: false,
             },
         },
-        1 => own_plan(true, true, first, second),
-        _ => Plan {
+        Choice::Separate => own_plan(true, true, mark.first, mark.second),
+        Choice::Split => Plan {
             shared: false,
             first: false,
             second: false,

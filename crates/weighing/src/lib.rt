@@ -8,6 +8,7 @@ ghost use Rattle.contexts.specs.Keys.{context_of};
 ghost use Rattle.estimate.specs.Table.{LossesOf};
 ghost use Rattle.records.specs.Held.{record_at, count_table};
 ghost use Rattle.weighing.specs.Trees.{choice};
+ghost use Rattle.weighing.specs.Marks.{number_of_choice, number_of, choice_in, mark_in};
 ghost use Rattle.weighing.specs.Weighs.{CanWeigh, Weighs};
 ghost use Rattle.weighing.specs.Visit.{Countable, CanVisit, Visited, Small, LeafOf, LeafHere, SplitOf, SplitHere, NoneOf, CanAdd, ChildOf, CanAddUnseen, UnseenOf, leaf_mark, split_mark};
 
@@ -36,6 +37,7 @@ pub struct Least {
 }
 
 // Weighs the trees of a desk over the first `n` records, and keeps the decision at each of its contexts beside the record.
+// What may not change: callers lend bytes, and `Decided` promises decisions as numbers, so `kept` is no slice of `Mark`.
 pub fn weigh(logs: LentLogs, numbers: &[u32], n: usize, desk: Desk, kept: &mut [u8]) -> Least
     requires { CanWeigh desk n numbers.now kept.old }
     ensures { Weighs desk n numbers.now kept.old kept.new result }
@@ -85,6 +87,70 @@ pub struct Weighed {
     pub least: ByKind,
     pub rows: ByKind,
     pub next: usize,
+}
+
+// What stands at a context: a shared leaf, two separate trees, or a split of both.
+#[derive(Clone, Copy, Debug, PartialEq, Eq)]
+pub enum Choice {
+    Shared,
+    Separate,
+    Split,
+}
+
+// The decision at a context: what stands there, and which own trees split.
+#[derive(Clone, Copy, Debug, PartialEq, Eq)]
+pub struct Mark {
+    pub joint: Choice,
+    pub first: bool,
+    pub second: bool,
+}
+
+// 0, 1 or 2.
+impl From<Choice> for u8 {
+    ghost from_gives = { λ choice result. result ≡ number_of_choice choice };
+
+    fn from(choice: Choice) -> u8 {
+        match choice {
+            Choice::Shared => 0,
+            Choice::Separate => 1,
+            Choice::Split => 2,
+        }
+    }
+}
+
+// The number that is kept beside a record for a decision ..
+impl From<Mark> for u8 {
+    ghost from_gives = { λ mark result. result ≡ number_of mark };
+
+    fn from(mark: Mark) -> u8 {
+        u8::from(mark.joint) + 3 * u8::from(mark.first) + 6 * u8::from(mark.second)
+    }
+}
+
+// .. and read back.
+impl From<u8> for Mark {
+    ghost from_gives = { λ number result. result ≡ mark_in number };
+
+    fn from(number: u8) -> Mark {
+        let first = number / 3 % 2 == 1;
+        let second = number / 6 == 1;
+        let joint = choice_in(number);
+        Mark {
+            joint,
+            first,
+            second,
+        }
+    }
+}
+
+fn choice_in(number: u8) -> Choice
+    ensures { result ≡ choice_in number }
+{
+    match number % 3 {
+        0 => Choice::Shared,
+        1 => Choice::Separate,
+        _ => Choice::Split,
+    }
 }
 
 // What stays the same all through a walk: the logarithms that are lent, the first `n` records of some numbers, the desk, and what a context of
@@ -244,31 +310,41 @@ fn of_less(x: u64, y: u64, of_x: u64, of_y: u64) -> u64
     if x <= y { of_x } else { of_y }
 }
 
-// The decision at a leaf with these losses.
+// The decision at a leaf with these losses, as a number: no own tree splits there.
 pub fn leaf_mark(own: ByKind) -> u8
     requires { Small own }
     ensures { result ≡ leaf_mark own }
 {
-    u8::from(own.shared > own.first + own.second)
+    if own.shared <= own.first + own.second {
+        u8::from(Choice::Shared)
+    } else {
+        u8::from(Choice::Separate)
+    }
 }
 
-// The decision at a context over children that lose this together.
+// The decision at a context over children that lose this together, as a number.
 fn split_mark(own: ByKind, below: ByKind) -> u8
     requires { Small own }
     ensures { result ≡ split_mark own below }
 {
     let apart = own.first.min(below.first) + own.second.min(below.second);
-    choice_of(own.shared, apart, below.shared)
-        + 3 * u8::from(own.first > below.first)
-        + 6 * u8::from(own.second > below.second)
+    u8::from(Mark {
+        joint: choice_of(own.shared, apart, below.shared),
+        first: own.first > below.first,
+        second: own.second > below.second,
+    })
 }
 
 // Of a shared leaf, two separate trees and a split of both, the first that loses least.
-fn choice_of(leaf: u64, apart: u64, split: u64) -> u8
-    ensures { (result ≡ choice leaf apart split) × (result ≤ 2) }
+fn choice_of(leaf: u64, apart: u64, split: u64) -> Choice
+    ensures { number_of_choice result ≡ choice leaf apart split }
 {
     if leaf <= apart.min(split) {
-        return 0;
+        return Choice::Shared;
     }
-    if apart <= split { 1 } else { 2 }
+    if apart <= split {
+        Choice::Separate
+    } else {
+        Choice::Split
+    }
 }
