@@ -13,12 +13,12 @@ use Rattle.charting.proofs.chart.Goals.{After-key_of, Else-field_at-length, then
 pub field_at-symbols-requires : goal.field_at-symbols-requires
 field_at-symbols-requires c =
     let found = c.in_ok-at.ensures in
-    rw found.number (field_readable c.args.store.now found.sound c.args.desk found.at_open.desk 1 (omega arith))
+    rw found.number (field_readable c.args.store.now found.sound c.args.desk found.at_open.desk _ (omega arith))
 
 pub field_at-requires : goal.field_at-requires
 field_at-requires c =
     let found = c.in_ok-at.ensures in
-    rw found.number (field_readable c.args.store.now found.sound c.args.desk found.at_open.desk 2 (omega arith))
+    rw found.number (field_readable c.args.store.now found.sound c.args.desk found.at_open.desk _ (omega arith))
 
 pub returns-then-symbols-symbol : goal.returns-then-symbols-symbol
 returns-then-symbols-symbol c =
