@@ -26,7 +26,7 @@ use Rattle.rules.specs.Question.{is_code, not_asked, charted}
 use Rattle.rules.specs.Rules.{Ask, charting, point, lines_of, ask_answer, rules}
 use Rattle.calls.specs.Promises.{Asks}
 use Rattle.calls.proofs.Keeping.{asks_answered}
-use Rattle.charting.specs.declared.Named.TheVariants.{Key, NoContext}
+use Rattle.std.specs.Prelude.{Some, None}
 use Rattle.charting.specs.Naming.{named}
 use Rattle.charting.specs.Reading.{Readable}
 use Rattle.charting.proofs.CodeWalk.{named_key, named_none}
@@ -71,12 +71,12 @@ pub record Asked (s : List ℕ) (d len a : ℕ) : Type 0 where
   pub short : len ≤ depth_at s d
 
 module _ (s : List ℕ) (d len code a : ℕ) (g : Asked s d len a) where
-  pub asks_code : named (symbols_at s d) d len code ≡ NoContext → Asks s (at_desk d (asking (charting len code a))) (refused 8)
+  pub asks_code : named (symbols_at s d) d len code ≡ None → Asks s (at_desk d (asking (charting len code a))) (refused 8)
   asks_code n =
       not_of_sitting_lem s g.sound d g.at_open len code a
       (rw (lt-leb (symbols_at s d) a g.symbol, le-ltb (depth_at s d) len g.short, named_none (symbols_at s d) d len code n))
 
-  module _ (k : ℕ) (n : named (symbols_at s d) d len code ≡ Key k) where
+  module _ (k : ℕ) (n : named (symbols_at s d) d len code ≡ Some k) where
     under : key_of d (decoded len code) ≡ k
     under = (named_key (symbols_at s d) d len code k n).1
 

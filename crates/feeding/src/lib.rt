@@ -99,7 +99,13 @@ fn feed_counted(store: &mut [u32], desk: u32, sample: u32, symbol: u32) -> Resul
 }
 
 // Refusal 10, or the feed of a symbol that follows `recent` and is counted.
-fn feed_after(store: &mut [u32], desk: u32, sample: u32, symbol: u32, recent: &[u32]) -> Result<(), Refusal>
+fn feed_after(
+    store: &mut [u32],
+    desk: u32,
+    sample: u32,
+    symbol: u32,
+    recent: &[u32],
+) -> Result<(), Refusal>
     requires { Judged store.old desk sample symbol × (recent.now ≡ recent_at store.old desk (sample_of sample)) × (is_counted store.old desk (sample_of sample) ≡ true) }
     ensures { Moves store.old (at_desk desk (asking (feed sample symbol))) (outcome_of result) store.new }
 {

@@ -4,7 +4,6 @@ use mathlib.Core.List.{List}
 use lib.ListN.{length, take, drop}
 use Prim.Native.Nat.{ℕ, ◌-◌}
 use native.Mathlib.Omega.{arith}
-use borrow.Author.Rules.{rules}
 use Rattle.records.specs.Records.{lookup, records}
 use Rattle.records.specs.Held.{count_table}
 use Rattle.records.proofs.Lent.{tail_lent}

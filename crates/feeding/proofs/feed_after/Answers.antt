@@ -1,5 +1,4 @@
 -- `feeding::feed_after` meets its contract: refusal 10, or the store fed. Assumes nothing.
-use borrow.Author.Rules.{rules}
 use Rattle.feeding.proofs.Answering.{then_asks, found, refused_past, write_asks, fed_kept}
 use Rattle.feeding.proofs.feed_after.Goals as goal
 

@@ -3,7 +3,6 @@ use mathlib.Core.Path.{◌≡◌, sym}
 use Prim.Native.Nat.{◌≤◌}
 use lib.ListN.{length, take}
 use lib.Seq.{length-take-le}
-use borrow.Author.Rules.{rules}
 use Rattle.contexts.specs.Sitting.{sample_of}
 use Rattle.changes.specs.FedStore.{recent_at}
 use Rattle.entering.proofs.Copying.{copied_recent}

@@ -1,6 +1,5 @@
 -- `feeding::feed_judged` meets its contract: the header alone is written where the place is not counted. Assumes nothing.
 use mathlib.Core.Path.{sym, ◌∙◌}
-use borrow.Author.Rules.{rules}
 use Rattle.feeding.proofs.Answering.{header_asks, header_kept}
 use Rattle.feeding.proofs.feed_judged.Goals as goal
 

@@ -1,7 +1,6 @@
 -- `report::desk_in` meets its contract. Assumes nothing.
 use Prim.Native.Nat.{ℕ}
 use mathlib.Core.Path.{◌≡◌}
-use borrow.Author.Rules.{rules}
 use Rattle.weighing.specs.declared.Desk.{Desk}
 use Rattle.report.proofs.desk_in.Goals as goal
 

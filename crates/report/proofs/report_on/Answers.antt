@@ -1,6 +1,5 @@
 -- `report::report_on` meets its contract. Assumes nothing.
 use native.Mathlib.Omega.{arith}
-use borrow.Author.Rules.{rules}
 use Rattle.report.proofs.Answering.{short_told, report_told}
 use Rattle.report.proofs.Negative.{minus_back}
 use Rattle.report.proofs.report_on.Goals as goal

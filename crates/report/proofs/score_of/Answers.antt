@@ -1,6 +1,5 @@
 -- `report::score_of` meets its contract. Assumes nothing.
 use mathlib.Core.Path.{sym, subst}
-use borrow.Author.Rules.{rules}
 use mir.Syntax.{w64}
 use mir.Val.{SFits}
 use Rattle.report.proofs.Negative.{minus_fits, minus_taken, minus_back}

@@ -3,7 +3,6 @@ use Prim.Native.Nat.{ℕ}
 use native.Mathlib.Omega.{arith}
 use mathlib.Core.Path.{subst}
 use mathlib.Core.List.{List}
-use borrow.Author.Rules.{rules}
 use Rattle.records.proofs.Lent.{tail_lent}
 use Rattle.store.specs.Layout.{header_size, used}
 use Rattle.weighing.specs.Weighs.{Weighs}
