@@ -17,7 +17,7 @@ ghost use Rattle.charting.specs.Reading.{Readable};
 use calls::Refusal;
 use chart::{Chart, chart_of};
 use door::open_desk;
-use records::{DESK_SPAN, table_of};
+use records::{DESK_SPAN, Held};
 use soundness::sound;
 use store::layout::{DEPTH, HEADER, SYMBOLS, USED, field_at};
 
@@ -71,7 +71,8 @@ fn chart_under(store: &[u32], key: u32, symbol: u32) -> Chart
     requires { Readable store.now key symbol }
     ensures { result ≡ chart_in (count_table (lookup key (records_in store.now))) symbol }
 {
-    let many = store[USED] as usize;
-    let body = &store[HEADER..];
-    chart_of(table_of(body, many, key), symbol)
+    let n = store[USED] as usize;
+    let numbers = &store[HEADER..];
+    let held = Held { numbers, n };
+    chart_of(held.table_of(key), symbol)
 }

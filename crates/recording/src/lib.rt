@@ -12,7 +12,7 @@ ghost use Rattle.records.specs.Fed.{fed, fresh};
 ghost use Rattle.records.specs.Located.{Ready, Insertable, Inserted, Appended};
 ghost use Rattle.recording.specs.Counted.{raised_each, Raisable, with_missing, Growable};
 
-use records::{COUNTS, DESK_SPAN, NEWEST, Sample, Sought, WIDTH, longer, place_of};
+use records::{COUNTS, DESK_SPAN, Held, NEWEST, Sample, Sought, WIDTH, longer};
 
 // The contexts that a counted symbol follows and that no record has yet: those from length `found` on. `recent` are the symbols before it, most recent
 // first, and a new record counts the symbol at `cell`.
@@ -31,8 +31,9 @@ pub fn remove_desk(numbers: &mut [u32], n: usize, desk: u32) -> usize
 {
     let least = desk * DESK_SPAN;
     let past = least + DESK_SPAN;
-    let first = place_of(numbers, n, least);
-    let next = place_of(numbers, n, past);
+    let held = Held { numbers, n };
+    let first = held.place_of(least);
+    let next = held.place_of(past);
     let gone = next - first;
     let from = WIDTH * first;
     let to = WIDTH * n;

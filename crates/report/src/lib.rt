@@ -14,6 +14,7 @@ use calls::{Refusal, Reported};
 use door::open_desk;
 use logarithm::LentLogs;
 use numbers::{MOST_ROOM, ROW_WIDTH};
+use records::Held;
 use store::layout::{DEPTH, HEADER, SIZE_FIRST, SIZE_SECOND, SYMBOLS, USED, WEIGHT, field_at};
 use weighing::{Desk, Least};
 
@@ -65,8 +66,9 @@ fn weighed(logs: LentLogs, store: &[u32], desk: Desk, kept: &mut [u8]) -> Least
     requires { CanReportOn store.now desk × (most_room ≤ length kept.old) }
     ensures { WeighedDesk store.now desk.number kept.new result }
 {
-    let used = store[USED] as usize;
-    weighing::weigh(logs, &store[HEADER..], used, desk, kept)
+    let n = store[USED] as usize;
+    let numbers = &store[HEADER..];
+    weighing::weigh(logs, Held { numbers, n }, desk, kept)
 }
 
 // Writes a weighed desk's rows from row `place` on.
@@ -74,12 +76,12 @@ fn write(logs: LentLogs, store: &[u32], desk: Desk, kept: &[u8], sheet: &mut [u3
     requires { CanReportOn store.now desk × DecidedDesk store.now desk.number kept.now × (place + length (rows.report_of (sitting_at store.now desk.number)) ≤ length sheet.old / row_width) }
     ensures { sheet.new ≡ with_rows place (rows.report_of (sitting_at store.now desk.number)) sheet.old }
 {
-    let used = store[USED] as usize;
+    let n = store[USED] as usize;
+    let numbers = &store[HEADER..];
     let start = ROW_WIDTH * place as usize;
     listing::write_rows(
         logs,
-        &store[HEADER..],
-        used,
+        Held { numbers, n },
         desk,
         kept,
         &mut sheet[start..],

@@ -14,7 +14,7 @@ ghost use Rattle.weighing.specs.Visit.{Countable, CanVisit, Visited, Small, Leaf
 
 use estimate::ByKind;
 use logarithm::LentLogs;
-use records::{DESK_SPAN, stands};
+use records::{DESK_SPAN, Held};
 
 // An open desk: its number, A, D, the weight and the samples' lengths.
 #[derive(Clone, Copy, Debug, PartialEq, Eq)]
@@ -36,17 +36,16 @@ pub struct Least {
     pub rows: u64,
 }
 
-// Weighs the trees of a desk over the first `n` records, and keeps the decision at each of its contexts beside the record.
+// Weighs the trees of a desk over the records in use, and keeps the decision at each of its contexts beside the record.
 // What may not change: callers lend bytes, and `Decided` promises decisions as numbers, so `kept` is no slice of `Mark`.
-pub fn weigh(logs: LentLogs, numbers: &[u32], n: usize, desk: Desk, kept: &mut [u8]) -> Least
-    requires { CanWeigh desk n numbers.now kept.old }
-    ensures { Weighs desk n numbers.now kept.old kept.new result }
+pub fn weigh(logs: LentLogs, held: Held, desk: Desk, kept: &mut [u8]) -> Least
+    requires { CanWeigh desk held.n held.numbers.now kept.old }
+    ensures { Weighs desk held.entry.n held.entry.numbers.now kept.old kept.new result }
 {
     let costs = estimate::costs_of(logs, desk.weight, desk.symbols, desk.n, desk.m);
     let walk = Walk {
         logs,
-        numbers,
-        n,
+        held,
         desk,
         costs,
     };
@@ -56,8 +55,8 @@ pub fn weigh(logs: LentLogs, numbers: &[u32], n: usize, desk: Desk, kept: &mut [
         span: DESK_SPAN,
         left: desk.depth,
     };
-    let at = records::place_of(numbers, n, key);
-    let w = if stands(numbers, n, at, key) {
+    let at = held.place_of(key);
+    let w = if held.stands(at, key) {
         walk.visit(kept, root, at)
     } else {
         as_leaf(costs, at)
@@ -153,13 +152,11 @@ fn choice_in(number: u8) -> Choice
     }
 }
 
-// What stays the same all through a walk: the logarithms that are lent, the first `n` records of some numbers, the desk, and what a context of
-// each kind costs.
+// What stays the same all through a walk: the logarithms that are lent, the records in use, the desk, and what a context of each kind costs.
 #[derive(Clone, Copy)]
 struct Walk<'a> {
     logs: LentLogs<'a>,
-    numbers: &'a [u32],
-    n: usize,
+    held: Held<'a>,
     desk: Desk,
     costs: ByKind,
 }
@@ -168,8 +165,8 @@ impl Walk<'_> {
     // The trees at a held context, whose place the walk has come to. A child that is not held is answered without a call.
     // The decision at each record of the context's block is kept beside it.
     fn visit(&self, kept: &mut [u8], here: Context, at: usize) -> Weighed
-        requires { CanVisit self.now.desk self.now.costs self.now.n self.now.numbers.now kept.old here at }
-        ensures { Visited self.now.desk self.now.n self.now.numbers.now (context_of here.key) here.left at kept.old kept.new result }
+        requires { CanVisit self.now.desk self.now.costs self.now.held.n self.now.held.numbers.now kept.old here at }
+        ensures { Visited self.now.desk self.now.held.n self.now.held.numbers.now (context_of here.key) here.left at kept.old kept.new result }
     {
         let own = self.losses_at(at);
         if here.left == 0 {
@@ -180,7 +177,7 @@ impl Walk<'_> {
         let mut children = none_yet(at + 1);
         for _ in 0..self.desk.symbols {
             let next = children.next;
-            if stands(self.numbers, self.n, next, key) {
+            if self.held.stands(next, key) {
                 let left = here.left - 1;
                 let child = Context { key, span, left };
                 children = and_child(children, self.visit(kept, child, next));
@@ -194,10 +191,10 @@ impl Walk<'_> {
 
     // The losses of the context of the record at a place.
     fn losses_at(&self, at: usize) -> ByKind
-        requires { Countable self.now.numbers.now at self.now.costs }
-        ensures { LossesOf (count_table (record_at at self.now.numbers.now)) self.now.costs result }
+        requires { Countable self.now.held.numbers.now at self.now.costs }
+        ensures { LossesOf (count_table (record_at at self.now.held.numbers.now)) self.now.costs result }
     {
-        estimate::losses_of(self.logs, records::counts_at(self.numbers, at), self.costs)
+        estimate::losses_of(self.logs, records::counts_at(self.held.numbers, at), self.costs)
     }
 }
 

@@ -9,7 +9,7 @@ use Rattle.listing.proofs.Listing.write_here.Goals as goal
 use Rattle.listing.proofs.Listing.write_here.Goals.{After-plan_of-plan}
 
 -- the plan is that of the kept decision
-is : (c : After-plan_of-plan) → let k = c.args.self.now in c.plan_of-plan.result ≡ kept_plan k.n k.numbers.now k.kept.now k.costs c.args.spot
+is : (c : After-plan_of-plan) → let k = c.args.self.now in c.plan_of-plan.result ≡ kept_plan k.held.n k.held.numbers.now k.kept.now k.costs c.args.spot
 is c = let w = c.args.spot.way in c.plan_of-plan.ensures ∙ ap (plan_by w) c.from.ensures ∙ plan_in w _ ∙ ap (plan_of w) c.mark_of.ensures
 
 pub put_here-requires : goal.put_here-requires
