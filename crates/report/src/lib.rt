@@ -79,13 +79,7 @@ fn write(logs: LentLogs, store: &[u32], desk: Desk, kept: &[u8], sheet: &mut [u3
     let n = store[USED] as usize;
     let numbers = &store[HEADER..];
     let start = ROW_WIDTH * place as usize;
-    listing::write_rows(
-        logs,
-        Held { numbers, n },
-        desk,
-        kept,
-        &mut sheet[start..],
-    );
+    listing::write_rows(logs, Held { numbers, n }, desk, kept, &mut sheet[start..]);
 }
 
 // A desk's numbers, as a weighing takes them.
