@@ -33,18 +33,6 @@ use Rattle.charting.proofs.CodeWalk.{named_key, named_none}
 use Rattle.charting.proofs.Joining.{chart_read, readable}
 
 module _ (s : List ℕ) (e : soundb s ≡ true) (d : ℕ) where
-  -- ---- any ask, refused by its desk
-
-  pub asks_no_desk : (q : Ask) → desks ≤ d → Asks s (at_desk d (asking q)) (refused 2)
-  unfolding verdict table_of table_at asking_table verdict_of
-  asks_no_desk q h = asks_answered s (at_desk d (asking q)) (refused 2) e (rw (le-leb desks d h))
-
-  pub asks_shut : (q : Ask) → d < desks → (field s d 0 ≡ 1 → ⊥) → Asks s (at_desk d (asking q)) (refused 4)
-  unfolding verdict table_of table_at asking_table verdict_of meaning
-  asks_shut q h n =
-      let shut : Open s d → ⊥ = λ o. n (eqb-true (field s d 0) 1 (is_true _ o.opened)) in
-      asks_answered s (at_desk d (asking q)) (refused 4) e (rw (lt-leb desks d h, desk_closed s d shut))
-
   -- ---- a chart question at an open desk
 
   module _ (o : Open s d) (len code a : ℕ) where

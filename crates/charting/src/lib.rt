@@ -16,10 +16,9 @@ ghost use Rattle.charting.specs.Reading.{Readable};
 
 use calls::Refusal;
 use chart::{Chart, chart_of};
-use numbers::DESKS;
+use door::open_desk;
 use records::{DESK_SPAN, table_of};
-use soundness::sound;
-use store::layout::{DEPTH, HEADER, OPEN, SYMBOLS, USED, field_at};
+use store::layout::{DeskNumbers, HEADER, USED};
 
 // What a length and a code name: the key of a desk's context, or no context over its alphabet.
 #[derive(Clone, Copy)]
@@ -29,24 +28,25 @@ enum Named {
 }
 
 // What the samples at a desk say of a symbol in the context of that length and code.
-pub fn chart(store: &[u32], desk: u32, length: u32, code: u32, symbol: u32) -> Result<Chart, Refusal>
+pub fn chart(
+    store: &[u32],
+    desk: u32,
+    length: u32,
+    code: u32,
+    symbol: u32,
+) -> Result<Chart, Refusal>
     ensures { Asks store.now (at_desk desk (asking (charting length code symbol))) (charted_of result) }
 {
-    if !sound(store) {
-        return Err(Refusal::Unsound);
-    }
-    let at = desk as usize;
-    if DESKS <= at {
-        return Err(Refusal::NoSuchDesk);
-    }
-    if field_at(store, at, OPEN) != 1 {
-        return Err(Refusal::NotOpen);
-    }
-    let symbols = field_at(store, at, SYMBOLS);
+    open_desk(store, desk)?;
+    let numbers = DeskNumbers {
+        store,
+        desk: desk as usize,
+    };
+    let symbols = numbers.symbols();
     if symbols <= symbol {
         return Err(Refusal::NotOfSitting);
     }
-    if field_at(store, at, DEPTH) < length {
+    if numbers.depth() < length {
         return Err(Refusal::NotOfSitting);
     }
     match key_of(symbols, desk, length, code) {
