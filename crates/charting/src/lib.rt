@@ -19,7 +19,7 @@ use chart::{Chart, chart_of};
 use door::open_desk;
 use records::{DESK_SPAN, Held};
 use soundness::sound;
-use store::layout::{DEPTH, HEADER, SYMBOLS, USED, field_at};
+use store::layout::{DeskNumbers, HEADER, USED};
 
 // What the samples at a desk say of a symbol in the context of that length and code.
 pub fn chart(
@@ -31,9 +31,13 @@ pub fn chart(
 ) -> Result<Chart, Refusal>
     ensures { Asks store.now (at_desk desk (asking (charting length code symbol))) (charted_of result) }
 {
-    let at = open_desk(store, desk)?;
-    let symbols = field_at(store, at, SYMBOLS);
-    if symbols <= symbol || field_at(store, at, DEPTH) < length {
+    open_desk(store, desk)?;
+    let numbers = DeskNumbers {
+        store,
+        desk: desk as usize,
+    };
+    let symbols = numbers.symbols();
+    if symbols <= symbol || numbers.depth() < length {
         return Err(Refusal::NotOfSitting);
     }
     let key = key_of(symbols, desk, length, code).ok_or(Refusal::NotOfSitting)?;

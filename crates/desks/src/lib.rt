@@ -19,8 +19,8 @@ use numbers::{DEEPEST, DESKS, FEWEST_SYMBOLS, MOST_SYMBOLS, MOST_WEIGHT};
 use recording::remove_desk;
 use soundness::{reserved, sound};
 use store::layout::{
-    DEPTH, DESK_NUMBERS, DESK_SIZE, FIRST_DESK, HEADER, OPEN, RESERVE, ROOM, SYMBOLS, USED, WEIGHT,
-    field_at,
+    DEPTH, DESK_NUMBERS, DESK_SIZE, DeskNumbers, FIRST_DESK, HEADER, Header, OPEN, RESERVE, ROOM,
+    SYMBOLS, USED, WEIGHT,
 };
 
 // What an opening names.
@@ -49,7 +49,11 @@ pub fn open(
     if DESKS <= desk as usize {
         return Err(Refusal::NoSuchDesk);
     }
-    if field_at(store, desk as usize, OPEN) == 1 {
+    let numbers = DeskNumbers {
+        store,
+        desk: desk as usize,
+    };
+    if numbers.is_open() {
         return Err(Refusal::AlreadyOpen);
     }
     let named = Named {
@@ -116,7 +120,7 @@ fn left_in(store: &[u32]) -> u32
     requires { soundb store.now ≡ true }
     ensures { result ≡ left (meaning store.now) }
 {
-    (store[ROOM] as u64 - reserved(store)) as u32
+    (store[ROOM] as u64 - reserved(Header { store })) as u32
 }
 
 // Writes the numbers of a desk that opens.

@@ -3,12 +3,12 @@ use Prim.Native.Nat.{ℕ, ◌≤◌, ◌<◌}
 use mathlib.Core.Path.{◌≡◌}
 use mathlib.Core.Bool.{true}
 use mathlib.Core.List.{List}
-use borrow.Author.Tests.{le-leb, lt-leb, eqb-true}
+use borrow.Author.Tests.{le-leb, lt-leb}
 use Rattle.numbers.specs.Limits.{desks}
-use Rattle.numbers.proofs.Tests.{is_true}
+use Rattle.numbers.proofs.Tests.{is_true, not_both}
 use Rattle.replay.specs.Table.{refused, verdict_of}
 use Rattle.replay.specs.Machine.{verdict, table_of, table_at, asking_table, closing_table}
-use Rattle.store.specs.Layout.{field}
+use Rattle.store.specs.Layout.{is_open}
 use Rattle.store.specs.Sound.{soundb}
 use Rattle.store.specs.Plain.{Open}
 use Rattle.store.specs.Meaning.{meaning}
@@ -23,8 +23,8 @@ module _ (s : List ℕ) (d : ℕ) where
     unfolding verdict table_of table_at asking_table closing_table verdict_of
     stops_no_desk h = record { asks = λ q. asks_answered s _ (refused 2) e (rw (le-leb desks d h)); closes = asks_answered s _ (refused 2) e (rw (le-leb desks d h)) }
 
-    pub stops_shut : d < desks → (field s d 0 ≡ 1 → ⊥) → Stops s d NotOpen
+    pub stops_shut : d < desks → is_open s d ≡ false → Stops s d NotOpen
     unfolding verdict table_of table_at asking_table closing_table verdict_of meaning
     stops_shut h n =
-        let shut : Open s d → ⊥ = λ o. n (eqb-true (field s d 0) 1 (is_true _ o.opened)) in
+        let shut : Open s d → ⊥ = λ o. not_both _ (is_true _ o.opened) n in
         record { asks = λ q. asks_answered s _ (refused 4) e (rw (lt-leb desks d h, desk_closed s d shut)); closes = asks_answered s _ (refused 4) e (rw (lt-leb desks d h, desk_closed s d shut)) }

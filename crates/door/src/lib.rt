@@ -8,7 +8,7 @@ ghost use Rattle.door.specs.Door.{Found, Stops};
 use calls::Refusal;
 use numbers::DESKS;
 use soundness::sound;
-use store::layout::{OPEN, field_at};
+use store::layout::DeskNumbers;
 
 // The desk of that number, where the store is sound and the desk is there and open.
 pub fn open_desk(store: &[u32], desk: u32) -> Result<usize, Refusal>
@@ -29,7 +29,8 @@ pub fn open_at(store: &[u32], desk: u32) -> Result<usize, Refusal>
     if DESKS <= at {
         return Err(Refusal::NoSuchDesk);
     }
-    if field_at(store, at, OPEN) != 1 {
+    let numbers = DeskNumbers { store, desk: at };
+    if !numbers.is_open() {
         return Err(Refusal::NotOpen);
     }
     Ok(at)

@@ -20,7 +20,7 @@ ghost use Rattle.changes.specs.Noted.{noted, Places};
 use recording::feed_records;
 use records::{DESK_SPAN, Held, Sample, Sought, numbers_at};
 use store::layout::{
-    DEPTH, DESK_SIZE, FIRST_DESK, HEADER, RECENT_FIRST, RESERVE, SIZE_FIRST, SLOTS, USED, field_at,
+    DESK_SIZE, DeskNumbers, FIRST_DESK, HEADER, RECENT_FIRST, SIZE_FIRST, SLOTS, USED,
 };
 
 // The symbols of a sample that a counted one follows, most recent first: the first `many` of six.
@@ -36,9 +36,12 @@ pub fn is_counted(store: &[u32], desk: u32, sample: Sample) -> bool
     requires { (soundb store.now ≡ true) × Open store.now desk }
     ensures { result ≡ is_counted store.now desk (sample_of (number_of sample)) }
 {
-    let d = desk as usize;
-    let size = field_at(store, d, SIZE_FIRST + sample.index());
-    let depth = field_at(store, d, DEPTH);
+    let numbers = DeskNumbers {
+        store,
+        desk: desk as usize,
+    };
+    let size = numbers.size(sample);
+    let depth = numbers.depth();
     depth <= size
 }
 
@@ -47,10 +50,12 @@ pub fn recent_of(store: &[u32], desk: u32, sample: Sample) -> Latest
     requires { (soundb store.now ≡ true) × Open store.now desk }
     ensures { (result.many ≡ depth_at store.now desk) × (result.symbols ≡ slots_at store.now desk (sample_of (number_of sample))) }
 {
-    let d = desk as usize;
-    let many = field_at(store, d, DEPTH) as usize;
-    let from = FIRST_DESK + DESK_SIZE * d + (RECENT_FIRST + SLOTS * sample.index());
-    let symbols = numbers_at(store, from);
+    let numbers = DeskNumbers {
+        store,
+        desk: desk as usize,
+    };
+    let many = numbers.depth() as usize;
+    let symbols = numbers_at(numbers.recent(sample), 0);
     Latest { symbols, many }
 }
 
@@ -76,9 +81,13 @@ pub fn is_past(store: &[u32], desk: u32, recent: &[u32], sought: Sought) -> bool
     }
     let more = recent.len() + 1 - found;
     let n = store[USED] as usize;
-    let numbers = &store[HEADER..];
-    let held = held_by(Held { numbers, n }, desk, places[0], places[found]);
-    let reserve = field_at(store, desk as usize, RESERVE) as usize;
+    let records = &store[HEADER..];
+    let held = held_by(Held { numbers: records, n }, desk, places[0], places[found]);
+    let numbers = DeskNumbers {
+        store,
+        desk: desk as usize,
+    };
+    let reserve = numbers.reserve() as usize;
     reserve < held + more
 }
 

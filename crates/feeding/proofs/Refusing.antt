@@ -30,12 +30,9 @@ module _ (s : List ℕ) (h : soundb s ≡ true) (d k a : ℕ) where
       pub refused_symbol : A ≤ a → Moves s call (refused 8) s
       refused_symbol l = moves_refused s call 8 h (no_symbol s d k a o one (omega arith))
 
-      module _ (below : a < A) (n : ℕ) (f : n ≡ field s d (opening_numbers + k)) where
-        size_is : n ≡ size_at s d (sample_of k)
-        size_is = f ∙ ap (field s d) (size_number k one)
-
+      module _ (below : a < A) (n : ℕ) (f : n ≡ size_at s d (sample_of k)) where
         pub refused_full : longest ≤ n → Moves s call (refused 9) s
-        refused_full l = moves_refused s call 9 h (sample_full s d k a o one (omega arith) (omega (arith, size_is)))
+        refused_full l = moves_refused s call 9 h (sample_full s d k a o one (omega arith) (omega (arith, f)))
 
         pub judged : n < longest → Judged s d k a
-        judged l = record { sound = h; at_open = o; of_samples = one; of_alphabet_holds = omega arith; not_full = omega (arith, size_is) }
+        judged l = record { sound = h; at_open = o; of_samples = one; of_alphabet_holds = omega arith; not_full = omega (arith, f) }

@@ -18,7 +18,7 @@ use entering::{is_counted, is_past, recent_of, seek_in, write_feed, write_header
 use numbers::LONGEST;
 use records::Sample;
 use soundness::sound;
-use store::layout::{SIZE_FIRST, SYMBOLS, field_at};
+use store::layout::DeskNumbers;
 
 // One more symbol of a sample at a desk.
 pub fn feed(store: &mut [u32], desk: u32, sample: u32, symbol: u32) -> Result<(), Refusal>
@@ -71,10 +71,11 @@ fn feed_sound(store: &mut [u32], desk: u32, sample: u32, symbol: u32) -> Result<
     let Ok(which) = Sample::try_from(sample) else {
         return Err(Refusal::NotOfSitting);
     };
-    if field_at(store, at, SYMBOLS) <= symbol {
+    let numbers = DeskNumbers { store, desk: at };
+    if numbers.symbols() <= symbol {
         return Err(Refusal::NotOfSitting);
     }
-    if LONGEST <= field_at(store, at, SIZE_FIRST + which.index()) {
+    if LONGEST <= numbers.size(which) {
         return Err(Refusal::SampleFull);
     }
     feed_judged(store, desk, which, symbol)

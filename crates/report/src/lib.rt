@@ -2,8 +2,7 @@
 #![tactic(auto)]
 
 ghost use Rattle.std.specs.Prelude.{◌≡◌, ◌+◌, ◌/◌, ◌^◌, ◌≤◌, ◌<◌, length, pos, neg_ℤ};
-ghost use Rattle.numbers.specs.Limits.{desks, most_room, row_width};
-ghost use Rattle.store.specs.Layout.{header_size};
+ghost use Rattle.numbers.specs.Limits.{most_room, row_width};
 ghost use Rattle.store.specs.Meaning.{sitting_at};
 ghost use Rattle.calls.specs.Refusals.{written_of};
 ghost use Rattle.calls.specs.Promises.{with_rows, Reports};
@@ -14,8 +13,8 @@ use calls::{Refusal, Reported};
 use door::open_desk;
 use logarithm::LentLogs;
 use numbers::{MOST_ROOM, ROW_WIDTH};
-use records::Held;
-use store::layout::{DEPTH, HEADER, SIZE_FIRST, SIZE_SECOND, SYMBOLS, USED, WEIGHT, field_at};
+use records::{Held, Sample};
+use store::layout::{DeskNumbers, HEADER, USED};
 use weighing::{Desk, Least};
 
 // Writes a desk's report on the sheet, from row `place` on.
@@ -23,7 +22,10 @@ pub fn report(store: &[u32], desk: u32, sheet: &mut [u32], place: u32) -> Result
     ensures { Reports store.now desk place (written_of result place sheet.new) sheet.old sheet.new }
 {
     open_desk(store, desk)?;
-    let at = desk_in(store, desk);
+    let at = desk_in(DeskNumbers {
+        store,
+        desk: desk as usize,
+    });
     if at.n == 0 || at.m == 0 {
         return Err(Refusal::SampleEmpty);
     }
@@ -83,17 +85,15 @@ fn write(logs: LentLogs, store: &[u32], desk: Desk, kept: &[u8], sheet: &mut [u3
 }
 
 // A desk's numbers, as a weighing takes them.
-fn desk_in(store: &[u32], desk: u32) -> Desk
-    requires { (header_size ≤ length store.now) × (desk < desks) }
-    ensures { result ≡ desk_in store.now desk }
+fn desk_in(numbers: DeskNumbers) -> Desk
+    ensures { result ≡ desk_in numbers.entry.store.now numbers.entry.desk }
 {
-    let d = desk as usize;
     Desk {
-        number: desk,
-        symbols: field_at(store, d, SYMBOLS),
-        depth: field_at(store, d, DEPTH),
-        weight: field_at(store, d, WEIGHT),
-        n: field_at(store, d, SIZE_FIRST),
-        m: field_at(store, d, SIZE_SECOND),
+        number: numbers.desk as u32,
+        symbols: numbers.symbols(),
+        depth: numbers.depth(),
+        weight: numbers.weight(),
+        n: numbers.size(Sample::First),
+        m: numbers.size(Sample::Second),
     }
 }

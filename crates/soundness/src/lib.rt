@@ -8,16 +8,12 @@ ghost use Rattle.numbers.specs.Every.{every, all};
 ghost use Rattle.records.specs.Records.{width, records, key};
 ghost use Rattle.contexts.specs.Keys.{desk_of, desk_span, eights};
 ghost use Rattle.contexts.specs.Sitting.{sum_of};
-ghost use Rattle.store.specs.Layout.{header_size};
 ghost use Rattle.store.specs.Sound.{soundb, of_alphabet, frame_ok, limits_ok, slots_ok, desk_test, reserved_at, quiet_from, counts_ok, table_ok};
 ghost use Rattle.store.specs.Walk.{largest_sum, Summed, oldest_ok, ends_ok, up_mark, key_fits, seen_mark, mark_ok, step_ok, tally_ok, passb};
 
 use numbers::{DEEPEST, DESKS, FEWEST_SYMBOLS, LONGEST, MOST_ROOM, MOST_SYMBOLS, MOST_WEIGHT};
-use records::{COUNTS, DESK_SPAN, WIDTH, eights_of};
-use store::layout::{
-    COUNTS_FIRST, COUNTS_SECOND, DEPTH, DESK_SIZE, FIRST_DESK, HEADER, OPEN, RECENT_FIRST,
-    RECENT_SECOND, RESERVE, ROOM, SIZE_FIRST, SIZE_SECOND, SLOTS, SYMBOLS, USED, WEIGHT, field_at,
-};
+use records::{COUNTS, DESK_SPAN, Sample, WIDTH, eights_of};
+use store::layout::{COUNTS_FIRST, COUNTS_SECOND, DeskNumbers, HEADER, Header, ROOM, USED};
 
 // Whether a lent store stands for sittings.
 pub fn sound(store: &[u32]) -> bool
@@ -29,7 +25,8 @@ pub fn sound(store: &[u32]) -> bool
     let many = store[USED] as usize;
     let room = u64::from(store[ROOM]);
     let body = &store[HEADER..];
-    pass(store, body, many) && reserved(store) <= room
+    let header = Header { store };
+    pass(header, body, many) && reserved(header) <= room
 }
 
 // The length, the room and the number of records in use.
@@ -50,9 +47,9 @@ const MARKS: usize = 9;
 // The pass. `p` and `q` have, for each length, the mark of the last record so long in each sample, one place on;
 // `tally` the number of each desk's records.
 // Two names and no array of two: each test below names the mark of the first sample and of the second once, as `step_ok` does.
-fn pass(store: &[u32], body: &[u32], many: usize) -> bool
-    requires { (header_size ≤ length store.now) × (width * many ≤ length body.now) × (many ≤ most_room) }
-    ensures { result ≡ passb store.now (records many body.now) }
+fn pass(header: Header, body: &[u32], many: usize) -> bool
+    requires { (width * many ≤ length body.now) × (many ≤ most_room) }
+    ensures { result ≡ passb header.entry.store.now (records many body.now) }
 {
     let mut p = [0u32; MARKS];
     let mut q = [0u32; MARKS];
@@ -64,7 +61,7 @@ fn pass(store: &[u32], body: &[u32], many: usize) -> bool
         let len = (key % 8) as usize;
         let x = total(held, COUNTS_FIRST);
         let y = total(held, COUNTS_SECOND);
-        if !record_ok(store, held, lo, x, y, p[len], q[len]) {
+        if !record_ok(header, held, lo, x, y, p[len], q[len]) {
             return false;
         }
         let desk = (key / DESK_SPAN) as usize;
@@ -73,7 +70,7 @@ fn pass(store: &[u32], body: &[u32], many: usize) -> bool
         tally[desk] += 1;
         lo = key + 1;
     }
-    desks_ok(store, tally)
+    desks_ok(header, tally)
 }
 
 // The sum of the eight counts that begin at a place of a record.
@@ -90,12 +87,12 @@ fn total(held: &[u32], from: usize) -> u64
 }
 
 // A record's turn: its key, its counts, x and y in all, and the marks p and q at its parent's length.
-fn record_ok(store: &[u32], held: &[u32], lo: u32, x: u64, y: u64, p: u32, q: u32) -> bool
-    requires { (header_size ≤ length store.now) × Summed held.now x y }
-    ensures { result ≡ step_ok store.now lo p q held.now }
+fn record_ok(header: Header, held: &[u32], lo: u32, x: u64, y: u64, p: u32, q: u32) -> bool
+    requires { Summed held.now x y }
+    ensures { result ≡ step_ok header.entry.store.now lo p q held.now }
 {
     let key = held[0];
-    if lo <= key && key_fits(store, key) && table_ok(store, held, x, y) {
+    if lo <= key && key_fits(header, key) && table_ok(header, held, x, y) {
         let up = up_mark(key);
         return mark_ok(x, p, up) && mark_ok(y, q, up);
     }
@@ -103,16 +100,18 @@ fn record_ok(store: &[u32], held: &[u32], lo: u32, x: u64, y: u64, p: u32, q: u3
 }
 
 // Whether a key has the length, the oldest symbol and the end of a context of an open desk.
-fn key_fits(store: &[u32], key: u32) -> bool
-    requires { header_size ≤ length store.now }
-    ensures { result ≡ key_fits store.now key }
+fn key_fits(header: Header, key: u32) -> bool
+    ensures { result ≡ key_fits header.entry.store.now key }
 {
     let desk = (key / DESK_SPAN) as usize;
-    desk < DESKS
-        && field_at(store, desk, OPEN) == 1
-        && key % 8 <= field_at(store, desk, DEPTH)
-        && oldest_ok(field_at(store, desk, SYMBOLS), key)
-        && ends_ok(key)
+    if DESKS <= desk {
+        return false;
+    }
+    let desk = DeskNumbers {
+        store: header.store,
+        desk,
+    };
+    desk.is_open() && key % 8 <= desk.depth() && oldest_ok(desk.symbols(), key) && ends_ok(key)
 }
 
 // Whether the oldest symbol of a key is below `a`.
@@ -133,14 +132,18 @@ fn ends_ok(key: u32) -> bool
 }
 
 // The counts of both samples by what the key's desk says, and at least one.
-fn table_ok(store: &[u32], held: &[u32], x: u64, y: u64) -> bool
-    requires { (header_size ≤ length store.now) × (desk_of (key held.now) < desks) × Summed held.now x y }
-    ensures { result ≡ table_ok store.now held.now }
+fn table_ok(header: Header, held: &[u32], x: u64, y: u64) -> bool
+    requires { (desk_of (key held.now) < desks) × Summed held.now x y }
+    ensures { result ≡ table_ok header.entry.store.now held.now }
 {
     let desk = (held[0] / DESK_SPAN) as usize;
-    let a = field_at(store, desk, SYMBOLS);
-    let n = field_at(store, desk, SIZE_FIRST);
-    let m = field_at(store, desk, SIZE_SECOND);
+    let desk = DeskNumbers {
+        store: header.store,
+        desk,
+    };
+    let a = desk.symbols();
+    let n = desk.size(Sample::First);
+    let m = desk.size(Sample::Second);
     counts_ok(held, COUNTS_FIRST, x, a, n) && counts_ok(held, COUNTS_SECOND, y, a, m) && 0 < x + y
 }
 
@@ -194,12 +197,15 @@ fn mark(key: u32, seen: u64) -> u32
 }
 
 // The desks' tests, with the number of each one's records.
-fn desks_ok(store: &[u32], tally: [u32; DESKS]) -> bool
-    requires { header_size ≤ length store.now }
-    ensures { result ≡ every desks (tally_ok store.now tally) }
+fn desks_ok(header: Header, tally: [u32; DESKS]) -> bool
+    ensures { result ≡ every desks (tally_ok header.entry.store.now tally) }
 {
     for (desk, &many) in tally.iter().enumerate() {
-        if !desk_ok(store, desk, many) {
+        let desk = DeskNumbers {
+            store: header.store,
+            desk,
+        };
+        if !desk_ok(desk, many) {
             return false;
         }
     }
@@ -207,39 +213,32 @@ fn desks_ok(store: &[u32], tally: [u32; DESKS]) -> bool
 }
 
 // A desk's test, with the number of its records.
-fn desk_ok(store: &[u32], desk: usize, many: u32) -> bool
-    requires { (header_size ≤ length store.now) × (desk < desks) }
-    ensures { result ≡ desk_test store.now desk many }
+fn desk_ok(desk: DeskNumbers, many: u32) -> bool
+    ensures { result ≡ desk_test desk.entry.store.now desk.entry.desk many }
 {
-    field_at(store, desk, OPEN) != 1
-        || limits_ok(store, desk) && many <= field_at(store, desk, RESERVE) && slots_ok(store, desk)
+    !desk.is_open() || limits_ok(desk) && many <= desk.reserve() && slots_ok(desk)
 }
 
 // Whether A, D, the weight, the reservation and the lengths of a desk are within their limits.
-fn limits_ok(store: &[u32], desk: usize) -> bool
-    requires { (header_size ≤ length store.now) × (desk < desks) }
-    ensures { result ≡ limits_ok store.now desk }
+fn limits_ok(desk: DeskNumbers) -> bool
+    ensures { result ≡ limits_ok desk.entry.store.now desk.entry.desk }
 {
-    let a = field_at(store, desk, SYMBOLS);
+    let a = desk.symbols();
     FEWEST_SYMBOLS <= a
         && a <= MOST_SYMBOLS
-        && field_at(store, desk, DEPTH) <= DEEPEST
-        && field_at(store, desk, WEIGHT) <= MOST_WEIGHT
-        && 1 <= field_at(store, desk, RESERVE)
-        && field_at(store, desk, SIZE_FIRST) <= LONGEST
-        && field_at(store, desk, SIZE_SECOND) <= LONGEST
+        && desk.depth() <= DEEPEST
+        && desk.weight() <= MOST_WEIGHT
+        && 1 <= desk.reserve()
+        && desk.size(Sample::First) <= LONGEST
+        && desk.size(Sample::Second) <= LONGEST
 }
 
 // Whether the places of a desk's recent symbols have symbols.
-fn slots_ok(store: &[u32], desk: usize) -> bool
-    requires { (header_size ≤ length store.now) × (desk < desks) }
-    ensures { result ≡ slots_ok store.now desk }
+fn slots_ok(desk: DeskNumbers) -> bool
+    ensures { result ≡ slots_ok desk.entry.store.now desk.entry.desk }
 {
-    let a = field_at(store, desk, SYMBOLS);
-    let start = FIRST_DESK + DESK_SIZE * desk;
-    let first = start + RECENT_FIRST;
-    let second = start + RECENT_SECOND;
-    all_below(&store[first..first + SLOTS], a) && all_below(&store[second..second + SLOTS], a)
+    let a = desk.symbols();
+    all_below(desk.recent(Sample::First), a) && all_below(desk.recent(Sample::Second), a)
 }
 
 // Whether every symbol of a part is below `a`.
@@ -250,24 +249,25 @@ fn all_below(part: &[u32], a: u32) -> bool
 }
 
 // What the open desks have reserved.
-pub fn reserved(store: &[u32]) -> u64
-    requires { header_size ≤ length store.now }
-    ensures { result ≡ sum desks (reserved_at store.now) }
+pub fn reserved(header: Header) -> u64
+    ensures { result ≡ sum desks (reserved_at header.entry.store.now) }
 {
     let mut all = 0;
     for desk in 0..DESKS {
-        all += reserved_at(store, desk);
+        all += reserved_at(DeskNumbers {
+            store: header.store,
+            desk,
+        });
     }
     all
 }
 
 // What a desk has reserved.
-fn reserved_at(store: &[u32], desk: usize) -> u64
-    requires { (header_size ≤ length store.now) × (desk < desks) }
-    ensures { (result ≡ reserved_at store.now desk) × (result < 4294967296) }
+fn reserved_at(desk: DeskNumbers) -> u64
+    ensures { (result ≡ reserved_at desk.entry.store.now desk.entry.desk) × (result < 4294967296) }
 {
-    if field_at(store, desk, OPEN) == 1 {
-        u64::from(field_at(store, desk, RESERVE))
+    if desk.is_open() {
+        u64::from(desk.reserve())
     } else {
         0
     }

@@ -1,6 +1,6 @@
 -- `entering::is_past` meets its contract: refusal 10. Assumes nothing.
 use native.Mathlib.Omega.{arith}
-use Rattle.store.proofs.Passing.{header_long, field_readable}
+use Rattle.store.proofs.Passing.{header_long}
 use Rattle.entering.proofs.Asking.{none_past, few_places, spanned, sum_small, past_is}
 use Rattle.entering.proofs.is_past.Goals as goal
 
@@ -36,17 +36,15 @@ held_by-held-requires c =
     let x = c.args in
     spanned x.store.now x.desk x.recent.now x.sought.found x.sought.places c.requires c.if-recent-found.false
 
-pub field_at-reserve-requires : goal.field_at-reserve-requires
-field_at-reserve-requires c =
-    let x = c.args in
-    field_readable x.store.now c.requires.sound x.desk c.requires.at_open.desk 4 (omega arith)
+pub invariant_of-numbers : goal.invariant_of-numbers
+invariant_of-numbers c = record { there = (header_long c.args.store.now c.requires.sound, c.requires.at_open.desk) }
 
 pub overflow_add-result : goal.overflow_add-result
 overflow_add-result c =
     let x = c.args in
-    omega (arith, sum_small x.store.now x.desk x.recent.now x.sought.found x.sought.places c.requires c.if-recent-found.false c.held_by-held.result c.field_at-reserve.result c.held_by-held.ensures c.field_at-reserve.ensures)
+    omega (arith, sum_small x.store.now x.desk x.recent.now x.sought.found x.sought.places c.requires c.if-recent-found.false c.held_by-held.result c.reserve-reserve.result c.held_by-held.ensures c.reserve-reserve.ensures)
 
 pub returns : goal.returns
 returns c =
     let x = c.args in
-    past_is x.store.now x.desk x.recent.now x.sought.found x.sought.places c.requires c.if-recent-found.false c.held_by-held.result c.field_at-reserve.result c.held_by-held.ensures c.field_at-reserve.ensures
+    past_is x.store.now x.desk x.recent.now x.sought.found x.sought.places c.requires c.if-recent-found.false c.held_by-held.result c.reserve-reserve.result c.held_by-held.ensures c.reserve-reserve.ensures

@@ -3,8 +3,9 @@ use Prim.Native.Nat.{◌+◌}
 use mathlib.Core.Path.{◌≡◌}
 use native.Mathlib.Omega.{arith}
 use Rattle.std.proofs.lemmas.Result.{err_from_is_err_and}
-use Rattle.store.specs.Layout.{opening_numbers, field}
-use Rattle.store.proofs.Passing.{field_readable}
+use Rattle.contexts.specs.Sitting.{sample_of}
+use Rattle.store.specs.Layout.{field, size_at}
+use Rattle.store.proofs.Passing.{header_long}
 use Rattle.calls.proofs.Keeping.{moves_stopped}
 use Rattle.records.specs.Samples.{number_of}
 use Rattle.records.proofs.Samples.{one_of_two, few_samples}
@@ -21,41 +22,35 @@ returns-in_default c =
     let x = c.args in
     refused_sample x.store.now c.requires x.desk x.sample x.symbol c.in_ok-at.ensures.at_open c.in_default.ensures.1
 
-pub field_at-requires : goal.field_at-requires
-field_at-requires c =
+pub invariant_of-numbers : goal.invariant_of-numbers
+invariant_of-numbers c =
     let found = c.in_ok-at.ensures in
-    rw found.number (field_readable c.args.store.now c.requires c.args.desk found.at_open.desk 1 (omega arith))
+    record { there = (header_long c.args.store.now c.requires, omega (arith, found.number, found.at_open.desk)) }
 
-pub returns-then-field_at-symbol : goal.returns-then-field_at-symbol
-returns-then-field_at-symbol c =
+pub returns-then-symbols-symbol : goal.returns-then-symbols-symbol
+returns-then-symbols-symbol c =
     let x = c.args in
     let found = c.in_ok-at.ensures in
-    let A : c.field_at.result ≡ field x.store.now x.desk 1 = rw found.number at c.field_at.ensures in
-    refused_symbol x.store.now c.requires x.desk x.sample x.symbol found.at_open (few_samples c.in-Ok.which x.sample c.in-Ok.ensures) _ A c.if-field_at-symbol.true
+    let A : c.symbols.result ≡ field x.store.now x.desk 1 = rw found.number at c.symbols.ensures in
+    refused_symbol x.store.now c.requires x.desk x.sample x.symbol found.at_open (few_samples c.in-Ok.which x.sample c.in-Ok.ensures) _ A c.if-symbols-symbol.true
 
-pub field_at-requires-2 : goal.field_at-requires-2
-field_at-requires-2 c =
-    let found = c.in_ok-at.ensures in
-    rw (found.number, c.index.ensures)
-    (field_readable c.args.store.now c.requires c.args.desk found.at_open.desk (opening_numbers + number_of c.in-Ok.which) (omega (arith, one_of_two c.in-Ok.which)))
-
-pub returns-then-field_at-ge-LONGEST : goal.returns-then-field_at-ge-LONGEST
-returns-then-field_at-ge-LONGEST c =
+pub returns-then-size-ge-LONGEST : goal.returns-then-size-ge-LONGEST
+returns-then-size-ge-LONGEST c =
     let x = c.args in
     let found = c.in_ok-at.ensures in
     let few = few_samples c.in-Ok.which x.sample c.in-Ok.ensures in
-    let A : c.field_at.result ≡ field x.store.now x.desk 1 = rw found.number at c.field_at.ensures in
-    let n : c.field_at-2.result ≡ field x.store.now x.desk (opening_numbers + x.sample) = rw (found.number, c.index.ensures, c.in-Ok.ensures) at c.field_at-2.ensures in
-    refused_full x.store.now c.requires x.desk x.sample x.symbol found.at_open few _ A c.if-field_at-symbol.false _ n c.if-field_at-ge-LONGEST.true
+    let A : c.symbols.result ≡ field x.store.now x.desk 1 = rw found.number at c.symbols.ensures in
+    let n : c.size.result ≡ size_at x.store.now x.desk (sample_of x.sample) = rw (found.number, c.in-Ok.ensures) at c.size.ensures in
+    refused_full x.store.now c.requires x.desk x.sample x.symbol found.at_open few _ A c.if-symbols-symbol.false _ n c.if-size-ge-LONGEST.true
 
 pub feed_judged-requires : goal.feed_judged-requires
 feed_judged-requires c =
     let x = c.args in
     let found = c.in_ok-at.ensures in
     let few = few_samples c.in-Ok.which x.sample c.in-Ok.ensures in
-    let A : c.field_at.result ≡ field x.store.now x.desk 1 = rw found.number at c.field_at.ensures in
-    let n : c.field_at-2.result ≡ field x.store.now x.desk (opening_numbers + x.sample) = rw (found.number, c.index.ensures, c.in-Ok.ensures) at c.field_at-2.ensures in
-    rw c.in-Ok.ensures (judged x.store.now c.requires x.desk x.sample x.symbol found.at_open few _ A c.if-field_at-symbol.false _ n c.if-field_at-ge-LONGEST.false)
+    let A : c.symbols.result ≡ field x.store.now x.desk 1 = rw found.number at c.symbols.ensures in
+    let n : c.size.result ≡ size_at x.store.now x.desk (sample_of x.sample) = rw (found.number, c.in-Ok.ensures) at c.size.ensures in
+    rw c.in-Ok.ensures (judged x.store.now c.requires x.desk x.sample x.symbol found.at_open few _ A c.if-symbols-symbol.false _ n c.if-size-ge-LONGEST.false)
 
 pub returns : goal.returns
 returns c = rw c.in-Ok.ensures at c.feed_judged.ensures

@@ -6,10 +6,10 @@ use Rattle.weighing.specs.declared.Desk.{Desk}
 use Rattle.report.proofs.Refusing.{told_first, told_second, told_first_short, told_second_short}
 use Rattle.report.proofs.report.Goals as goal
 
-pub desk_in-at-requires : goal.desk_in-at-requires
-desk_in-at-requires c =
+pub invariant_of-desk_in : goal.invariant_of-desk_in
+invariant_of-desk_in c =
     let found = c.in_ok-open_desk.ensures in
-    (header_long c.args.store.now found.sound, found.at_open.desk)
+    record { there = (header_long c.args.store.now found.sound, found.at_open.desk) }
 
 pub returns-then-at-eq0 : goal.returns-then-at-eq0
 returns-then-at-eq0 c =

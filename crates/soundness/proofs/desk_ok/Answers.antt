@@ -5,14 +5,14 @@ use Rattle.std.proofs.lemmas.Grind.{common_steps}
 use Rattle.store.specs.Sound.{desk_test}
 use Rattle.soundness.proofs.desk_ok.Goals as goal
 
-pub returns-then-field_at-ne1 : goal.returns-then-field_at-ne1
+pub returns-then-not-is_open : goal.returns-then-not-is_open
 unfolding desk_test
-returns-then-field_at-ne1 c = grind (arith, nat_tests, common_steps)
+returns-then-not-is_open c = grind (arith, nat_tests, common_steps)
 
-pub returns-then-many-field_at : goal.returns-then-many-field_at
+pub returns-then-many-reserve : goal.returns-then-many-reserve
 unfolding desk_test
-returns-then-many-field_at c = grind (arith, nat_tests, common_steps)
+returns-then-many-reserve c = grind (arith, nat_tests, common_steps)
 
-pub returns-else-many-field_at : goal.returns-else-many-field_at
+pub returns-else-many-reserve : goal.returns-else-many-reserve
 unfolding desk_test
-returns-else-many-field_at c = grind (arith, nat_tests, common_steps)
+returns-else-many-reserve c = grind (arith, nat_tests, common_steps)

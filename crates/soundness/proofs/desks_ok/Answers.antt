@@ -7,16 +7,16 @@ use Rattle.store.specs.Walk.{tally_ok}
 use Rattle.soundness.proofs.desks_ok.Goals as goal
 
 pub loop-desk-init : goal.loop-desk-init
-loop-desk-init c = every_none (tally_ok c.args.store.now c.args.tally)
+loop-desk-init c = every_none (tally_ok c.args.header.store.now c.args.tally)
 
 pub loop-desk-preserved : goal.loop-desk-preserved
 loop-desk-preserved c =
-    let test = tally_ok c.args.store.now c.args.tally in
+    let test = tally_ok c.args.header.store.now c.args.tally in
     every_next c.loop-desk.desk test ∙ rw (c.loop-desk.invariant, sym c.desk_ok.ensures ∙ c.if-not-desk_ok.false)
 
 pub returns-then-not-desk_ok : goal.returns-then-not-desk_ok
 returns-then-not-desk_ok c =
-    let test = tally_ok c.args.store.now c.args.tally in
+    let test = tally_ok c.args.header.store.now c.args.tally in
     sym (every_fails desks test c.loop-desk.desk (omega arith) (sym c.desk_ok.ensures ∙ c.if-not-desk_ok.true))
 
 pub returns : goal.returns

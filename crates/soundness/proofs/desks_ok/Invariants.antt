@@ -6,4 +6,4 @@ use Rattle.store.specs.Walk.{tally_ok}
 use Rattle.soundness.proofs.desks_ok.Given as goal
 
 abbrev pub invariant-loop-desk : goal.invariant-loop-desk
-invariant-loop-desk l = every l.desk (tally_ok l.store l.fn.tally) ≡ true
+invariant-loop-desk l = every l.desk (tally_ok l.header.store.now l.fn.tally) ≡ true

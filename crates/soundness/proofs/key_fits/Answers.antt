@@ -12,3 +12,7 @@ returns-then-oldest_ok c = grind (arith, nat_tests, common_steps)
 pub returns-else-oldest_ok : goal.returns-else-oldest_ok
 unfolding key_fits
 returns-else-oldest_ok c = grind (arith, nat_tests, common_steps)
+
+pub returns-then-desk-ge-DESKS : goal.returns-then-desk-ge-DESKS
+unfolding key_fits
+returns-then-desk-ge-DESKS c = grind (arith, nat_tests, common_steps)

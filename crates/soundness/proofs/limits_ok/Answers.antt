@@ -5,10 +5,10 @@ use Rattle.std.proofs.lemmas.Grind.{common_steps}
 use Rattle.store.specs.Sound.{limits_ok}
 use Rattle.soundness.proofs.limits_ok.Goals as goal
 
-pub returns-then-field_at-le-LONGEST : goal.returns-then-field_at-le-LONGEST
+pub returns-then-size-le-LONGEST : goal.returns-then-size-le-LONGEST
 unfolding limits_ok
-returns-then-field_at-le-LONGEST c = grind (arith, nat_tests, common_steps)
+returns-then-size-le-LONGEST c = grind (arith, nat_tests, common_steps)
 
-pub returns-else-field_at-le-LONGEST : goal.returns-else-field_at-le-LONGEST
+pub returns-else-size-le-LONGEST : goal.returns-else-size-le-LONGEST
 unfolding limits_ok
-returns-else-field_at-le-LONGEST c = grind (arith, nat_tests, common_steps)
+returns-else-size-le-LONGEST c = grind (arith, nat_tests, common_steps)

@@ -49,7 +49,7 @@ loop-held-preserved c =
     let rs = take args.many c.as_chunks.result.0.now in
     let r = get_or rs loop.held-index [] in
     let all = cut (goal.at.loop-held-preserved c).After-as_chunks in
-    turn_next args.store.now args.body.now args.many loop.p loop.q loop.tally loop.lo loop.held-index loop.invariant
+    turn_next args.header.store.now args.body.now args.many loop.p loop.q loop.tally loop.lo loop.held-index loop.invariant
     (omega (arith, ap length all, length_parts width args.many args.body.now)) r
     (ap (λ (l : List (List ℕ)). get_or l loop.held-index []) all) (sym c.record_ok.ensures ∙ c.if-not-record_ok.false) c.mark.result c.mark-in-loop-held.result
     (c.mark.ensures ∙ ap (seen_mark (key r)) c.total-x.ensures.0) (c.mark-in-loop-held.ensures ∙ ap (seen_mark (key r)) c.total-y.ensures.0)
@@ -60,7 +60,7 @@ returns-then-not-record_ok c =
     let loop = c.loop-held in
     let rs = take args.many c.as_chunks.result.0.now in
     let all = cut (goal.at.returns-then-not-record_ok c).After-as_chunks in
-    turn_bad args.store.now args.body.now args.many loop.p loop.q loop.tally loop.lo loop.held-index loop.invariant
+    turn_bad args.header.store.now args.body.now args.many loop.p loop.q loop.tally loop.lo loop.held-index loop.invariant
     (omega (arith, ap length all, length_parts width args.many args.body.now)) (get_or rs loop.held-index [])
     (ap (λ (l : List (List ℕ)). get_or l loop.held-index []) all) (sym c.record_ok.ensures ∙ c.if-not-record_ok.true)
 
@@ -69,5 +69,5 @@ returns c =
     let args = c.args in
     let loop = c.loop-held in
     let all = cut (goal.at.returns c).After-as_chunks in
-    c.desks_ok.ensures ∙ turn_end args.store.now args.body.now args.many loop.p loop.q loop.tally loop.lo loop.held-index loop.invariant
+    c.desks_ok.ensures ∙ turn_end args.header.store.now args.body.now args.many loop.p loop.q loop.tally loop.lo loop.held-index loop.invariant
     (omega (arith, ap length all, length_parts width args.many args.body.now))

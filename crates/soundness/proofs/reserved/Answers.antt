@@ -6,9 +6,9 @@ use Rattle.store.specs.Sound.{reserved_at}
 use Rattle.soundness.proofs.reserved.Goals as goal
 
 pub loop-desk-init : goal.loop-desk-init
-loop-desk-init c = (omega arith, sym (sum_none (reserved_at c.args.store.now)))
+loop-desk-init c = (omega arith, sym (sum_none (reserved_at c.args.header.store.now)))
 
 pub loop-desk-preserved : goal.loop-desk-preserved
 loop-desk-preserved c =
-    let step = sum_next c.loop-desk.desk (reserved_at c.args.store.now) in
+    let step = sum_next c.loop-desk.desk (reserved_at c.args.header.store.now) in
     (omega arith, omega arith)

@@ -6,4 +6,4 @@ use Rattle.store.specs.Sound.{reserved_at}
 use Rattle.soundness.proofs.reserved.Given as goal
 
 abbrev pub invariant-loop-desk : goal.invariant-loop-desk
-invariant-loop-desk l = (l.all ≤ 4294967296 * l.desk) × (l.all ≡ sum l.desk (reserved_at l.store))
+invariant-loop-desk l = (l.all ≤ 4294967296 * l.desk) × (l.all ≡ sum l.desk (reserved_at l.header.store.now))

@@ -40,10 +40,10 @@ slice_bounds-body-start c = omega (arith, (known (goal.at.slice_bounds-body-star
 pub pass-requires : goal.pass-requires
 pass-requires c =
     let f = known (goal.at.pass-requires c).Else-not-frame_ok in
-    (omega (arith, f.long), body_long c.args.store.now f, omega (arith, f.few, f.most))
+    (body_long c.args.store.now f, omega (arith, f.few, f.most))
 
-pub reserved-requires : goal.reserved-requires
-reserved-requires c = omega (arith, (known (goal.at.reserved-requires c).Else-not-frame_ok).long)
+pub invariant_of-header : goal.invariant_of-header
+invariant_of-header c = record { whole = omega (arith, (known (goal.at.invariant_of-header c).Else-not-frame_ok).long) }
 
 pub returns-then-pass : goal.returns-then-pass
 returns-then-pass c = rw (← pass_is c.args.store.now, known-test (goal.at.returns-then-pass c).Else-not-frame_ok, passes (goal.at.returns-then-pass c).After-pass ∙ c.if-pass.true, ← c.reserved.ensures, c.from-room.ensures)

@@ -7,8 +7,8 @@ use Rattle.soundness.proofs.table_ok.Goals as goal
 
 pub returns-then-counts_ok-2 : goal.returns-then-counts_ok-2
 unfolding table_ok
-returns-then-counts_ok-2 c = let given = c.requires.2 in grind (arith, nat_tests, common_steps)
+returns-then-counts_ok-2 c = let given = c.requires.1 in grind (arith, nat_tests, common_steps)
 
 pub returns-else-counts_ok-2 : goal.returns-else-counts_ok-2
 unfolding table_ok
-returns-else-counts_ok-2 c = let given = c.requires.2 in grind (arith, nat_tests, common_steps)
+returns-else-counts_ok-2 c = let given = c.requires.1 in grind (arith, nat_tests, common_steps)
