@@ -1,5 +1,5 @@
 -- `feeding::feed_run` meets its contract: after `done` accepted feeds what is left of the run decides. Assumes nothing.
-use Rattle.std.proofs.Common.{rules, arith, ◌≡◌, subst, ℕ, length}
+use Rattle.std.proofs.Common.{arith, ◌≡◌, subst, ℕ, length}
 use Rattle.replay.specs.Table.{answered}
 use Rattle.rules.specs.Rules.{done}
 use Rattle.calls.specs.Run.{Runs}
