@@ -1,7 +1,7 @@
 -- What the table says of an act at a store that is not sound, or at a desk that is not there or not open. Assumes nothing.
 use Prim.Native.Nat.{ℕ, ◌≤◌, ◌<◌}
 use mathlib.Core.Path.{◌≡◌}
-use mathlib.Core.Bool.{true, false}
+use mathlib.Core.Bool.{true}
 use mathlib.Core.List.{List}
 use borrow.Author.Tests.{le-leb, lt-leb, eqb-true}
 use Rattle.numbers.specs.Limits.{desks}
@@ -13,14 +13,11 @@ use Rattle.store.specs.Sound.{soundb}
 use Rattle.store.specs.Plain.{Open}
 use Rattle.store.specs.Meaning.{meaning}
 use Rattle.store.proofs.Fitting.{desk_closed}
-use Rattle.calls.specs.declared.Refusal.TheVariants.{Unsound, NoSuchDesk, NotOpen}
-use Rattle.calls.proofs.Keeping.{asks_unsound, asks_answered}
+use Rattle.calls.specs.declared.Refusal.TheVariants.{NoSuchDesk, NotOpen}
+use Rattle.calls.proofs.Keeping.{asks_answered}
 use Rattle.door.specs.Door.{Stops}
 
 module _ (s : List ℕ) (d : ℕ) where
-  pub stops_unsound : soundb s ≡ false → Stops s d Unsound
-  stops_unsound e = record { asks = λ q. asks_unsound s _ e; closes = asks_unsound s _ e }
-
   module _ (e : soundb s ≡ true) where
     pub stops_no_desk : desks ≤ d → Stops s d NoSuchDesk
     unfolding verdict table_of table_at asking_table closing_table verdict_of

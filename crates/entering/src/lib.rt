@@ -19,7 +19,7 @@ ghost use Rattle.entering.specs.Seeking.{Found, Spanned};
 ghost use Rattle.changes.specs.Noted.{noted, Places};
 
 use recording::{Feed, feed_records};
-use records::{DESK_SPAN, Sample, Sought, numbers_at, place_from, seek};
+use records::{DESK_SPAN, Held, Sample, Sought, numbers_at};
 use store::layout::{
     DEPTH, DESK_SIZE, FIRST_DESK, HEADER, RECENT_FIRST, RESERVE, SIZE_FIRST, SLOTS, USED, field_at,
 };
@@ -60,8 +60,9 @@ pub fn seek_in(store: &[u32], desk: u32, recent: &[u32]) -> Sought
     requires { (soundb store.now ≡ true) × Askable desk recent.now (used store.now) (drop header_size store.now) }
     ensures { Seeks desk recent.now (records_in store.now) result.found result.places }
 {
-    let many = store[USED] as usize;
-    seek(&store[HEADER..], many, desk, recent)
+    let n = store[USED] as usize;
+    let numbers = &store[HEADER..];
+    Held { numbers, n }.seek(desk, recent)
 }
 
 // Whether the contexts that are missing would take the sitting past its reservation. Where none is, what it holds need not be counted.
@@ -75,19 +76,20 @@ pub fn is_past(store: &[u32], desk: u32, recent: &[u32], sought: Sought) -> bool
         return false;
     }
     let more = recent.len() + 1 - found;
-    let many = store[USED] as usize;
-    let held = held_by(&store[HEADER..], many, desk, places[0], places[found]);
+    let n = store[USED] as usize;
+    let numbers = &store[HEADER..];
+    let held = held_by(Held { numbers, n }, desk, places[0], places[found]);
     let reserve = field_at(store, desk as usize, RESERVE) as usize;
     reserve < held + more
 }
 
-// How many of the first `n` records are a desk's: the first is at a place, and the last not before another.
-fn held_by(numbers: &[u32], n: usize, desk: u32, first: usize, from: usize) -> usize
-    requires { Spanned desk n first from numbers.now }
-    ensures { result ≡ length (keep (of_desk desk) (records n numbers.now)) }
+// How many of the records in use are a desk's: the first is at a place, and the last not before another.
+fn held_by(held: Held, desk: u32, first: usize, from: usize) -> usize
+    requires { Spanned desk held.n first from held.numbers.now }
+    ensures { result ≡ length (keep (of_desk desk) (records held.entry.n held.entry.numbers.now)) }
 {
     let past = desk * DESK_SPAN + DESK_SPAN;
-    place_from(numbers, n, from, past) - first
+    held.place_from(from, past) - first
 }
 
 // Writes an accepted feed that is counted: the records, then the header. `recent` are the symbols before it, most recent first.

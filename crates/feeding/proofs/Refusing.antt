@@ -1,12 +1,10 @@
 -- Refusals 2 to 9 of a feed, as the code has them. Assumes nothing.
-use mathlib.Core.Path.{◌≡◌, sym, ap, ◌∙◌}
+use mathlib.Core.Path.{◌≡◌, ap, ◌∙◌}
 use mathlib.Core.Bool.{true}
 use mathlib.Core.List.{List}
 use Prim.Native.Nat.{ℕ, ◌+◌, ◌≤◌, ◌<◌}
 use native.Mathlib.Omega.{arith}
-use lib.Dec.{eqb→eq}
-use Rattle.numbers.specs.Limits.{longest, desks}
-use Rattle.numbers.proofs.Orders.{eq→eqb}
+use Rattle.numbers.specs.Limits.{longest}
 use Rattle.contexts.specs.Sitting.{sample_of}
 use Rattle.replay.specs.Table.{refused}
 use Rattle.replay.specs.Machine.{Call, asking, at_desk}
@@ -17,21 +15,12 @@ use Rattle.rules.specs.Rules.{feed, rules}
 use Rattle.calls.specs.Promises.{Moves}
 use Rattle.calls.proofs.Keeping.{moves_refused}
 use Rattle.changes.specs.FedStore.{Judged}
-use Rattle.changes.proofs.Judging.{no_such_desk_lem, not_open, no_sample, no_symbol, sample_full}
+use Rattle.changes.proofs.Judging.{no_sample, no_symbol, sample_full}
 use Rattle.changes.proofs.Numbering.{size_number}
-
-pub opened : (s : List ℕ) (d x : ℕ) → d < desks → x ≡ field s d 0 → x ≡ 1 → Open s d
-opened s d x l e q = record { desk = l; opened = eq→eqb (field s d 0) 1 (sym e ∙ q) }
 
 module _ (s : List ℕ) (h : soundb s ≡ true) (d k a : ℕ) where
   abbrev call : Call rules
   call = at_desk d (asking (feed k a))
-
-  pub refused_desk : desks ≤ d → Moves s call (refused 2) s
-  refused_desk l = moves_refused s call 2 h (no_such_desk_lem s d k a l)
-
-  pub refused_open : (x : ℕ) → d < desks → x ≡ field s d 0 → (x ≡ 1 → ⊥) → Moves s call (refused 4) s
-  refused_open x l e n = moves_refused s call 4 h (not_open s d k a l (λ o. n (e ∙ eqb→eq (field s d 0) 1 o.opened)))
 
   module _ (o : Open s d) where
     pub refused_sample : 1 < k → Moves s call (refused 8) s

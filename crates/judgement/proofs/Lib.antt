@@ -9,3 +9,4 @@ pub mod Texts
 pub mod Examples
 pub mod Longer
 pub mod Exactly
+pub mod Numbered

@@ -48,10 +48,10 @@ module _ (k : Desk) (n : ℕ) (l : List ℕ) (w : Weighable k n l) where
     room = omega (arith, q.room, ap length root_rows);
   }
 
-  pub root_readable : (kept : List ℕ) → Decided k n l kept → (costs : ByKind) → CostsOf k.weight k.symbols k.n k.m costs → Readable n l kept costs
+  pub root_readable : (kept : List ℕ) → Decided k n l kept → (costs : ByKind) → CostsOf k.weight k.symbols k.n k.m costs → Readable n kept costs
   root_readable kept q costs priced =
       let small = costs_small k n l w costs priced in
-      record { standing = w.standing; beside = q.beside; small = record { first = omega (arith, small (own first)); second = omega (arith, small (own second)) } }
+      record { beside = q.beside; small = record { first = omega (arith, small (own first)); second = omega (arith, small (own second)) } }
 
   pub reported : (before after : List ℕ) (past : ℕ) → WroteAt before after 0 (rows_from k n l [] root_spot) past → Listed k n l before after
   reported before after past g = record { sheet = subst (λ (rows : List ℕ). after ≡ rows ++ drop (length rows) before) root_rows (g.sheet ∙ rw zero-add) }

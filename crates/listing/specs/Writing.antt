@@ -10,7 +10,7 @@ use Rattle.estimate.specs.declared.ByKind.{ByKind}
 use Rattle.rows.specs.Members.{Member}
 use Rattle.rows.specs.Rows.{row_of, report_of, sheet_of, kind_of}
 use Rattle.records.specs.Records.{records, keys, lookup}
-use Rattle.records.specs.Held.{rank, held, count_table, Standing}
+use Rattle.records.specs.Held.{rank, held, count_table}
 use Rattle.weighing.specs.declared.Desk.{Desk}
 use Rattle.listing.specs.declared.Plan.{Plan}
 use Rattle.listing.specs.declared.Spot.{Spot}
@@ -60,8 +60,7 @@ pub record CanWrite (k : Desk) (costs : ByKind) (n : ℕ) (l kept : List ℕ) (t
   pub room : to + length (rows_from k n l s c) ≤ top
 
 -- decisions can be read under every key: there is one beside each record, and where none is held, a leaf that costs this gives it
-pub record Readable (n : ℕ) (l kept : List ℕ) (costs : ByKind) : Type 0 where
-  pub standing : Standing n l
+pub record Readable (n : ℕ) (kept : List ℕ) (costs : ByKind) : Type 0 where
   pub beside : n ≤ length kept
   pub small : Small costs
 

@@ -8,27 +8,26 @@ ghost use Rattle.records.specs.Records.{records, lookup};
 ghost use Rattle.records.specs.Held.{count_table};
 ghost use Rattle.rows.specs.Members.{number};
 ghost use Rattle.rows.specs.Kinds.{told};
-ghost use Rattle.listing.specs.Plans.{goes_on, own_plan, plan_of};
+ghost use Rattle.listing.specs.Plans.{goes_on, own_plan, plan_by};
 ghost use Rattle.listing.specs.Writing.{WroteAt, numbers_if, numbers_here, Roomy, rows_from, CanWrite, Readable, WroteNumbers, kept_mark, kept_plan, CanReport, Listed};
 
 use estimate::ByKind;
 use logarithm::LentLogs;
 use numbers::ROW_WIDTH;
-use records::{DESK_SPAN, stands};
+use records::{DESK_SPAN, Held};
 use rows::Kind;
-use weighing::{Desk, leaf_mark};
+use weighing::{Choice, Desk, Mark, leaf_mark};
 
 // Writes the rows of a desk's report at the beginning of the sheet, by the decisions that `weigh` kept beside the records.
 pub fn write_rows(
     logs: LentLogs,
-    numbers: &[u32],
-    n: usize,
+    held: Held,
     desk: Desk,
     kept: &[u8],
     sheet: &mut [u32],
 )
-    requires { CanReport desk n numbers.now kept.now sheet.old }
-    ensures { Listed desk n numbers.now sheet.old sheet.new }
+    requires { CanReport desk held.n held.numbers.now kept.now sheet.old }
+    ensures { Listed desk held.entry.n held.entry.numbers.now sheet.old sheet.new }
 {
     let costs = estimate::costs_of(logs, desk.weight, desk.symbols, desk.n, desk.m);
     let way = Way {
@@ -46,8 +45,7 @@ pub fn write_rows(
         way,
     };
     let listing = Listing {
-        numbers,
-        n,
+        held,
         kept,
         desk,
         costs,
@@ -90,23 +88,22 @@ pub struct Step {
     pub to: usize,
 }
 
-// What stays the same all through a listing: the first `n` records of some numbers, the decisions that a weighing kept beside them, the desk,
-// and what a context of each kind costs.
+// What stays the same all through a listing: the records in use, the decisions that a weighing kept beside them, the desk, and what a context
+// of each kind costs.
 #[derive(Clone, Copy)]
 struct Listing<'a> {
-    numbers: &'a [u32],
-    n: usize,
+    held: Held<'a>,
     kept: &'a [u8],
     desk: Desk,
     costs: ByKind,
-    ghost readable: { Readable n numbers.now kept.now costs },
+    ghost readable: { Readable held.n kept.now costs },
 }
 
 impl Listing<'_> {
     // Writes the rows at a context and below it; the place after them.
     fn write_from(&self, sheet: &mut [u32], spot: Spot, to: usize) -> usize
-        requires { CanWrite self.now.desk self.now.costs self.now.n self.now.numbers.now self.now.kept.now (length sheet.old) (context_of spot.key) spot to }
-        ensures { WroteAt sheet.old sheet.new to (rows_from self.now.desk self.now.n self.now.numbers.now (context_of spot.key) spot) result }
+        requires { CanWrite self.now.desk self.now.costs self.now.held.n self.now.held.numbers.now self.now.kept.now (length sheet.old) (context_of spot.key) spot to }
+        ensures { WroteAt sheet.old sheet.new to (rows_from self.now.desk self.now.held.n self.now.held.numbers.now (context_of spot.key) spot) result }
     {
         let step = self.write_here(sheet, spot, self.desk.depth - spot.left, to);
         let way = step.way;
@@ -137,11 +134,11 @@ impl Listing<'_> {
 
     // The rows at one context, and what is wanted of its children.
     fn write_here(&self, sheet: &mut [u32], spot: Spot, len: u32, to: usize) -> Step
-        requires { Roomy (length sheet.old) to (length (numbers_here (kept_plan self.now.n self.now.numbers.now self.now.kept.now self.now.costs spot) len spot.code (count_table (lookup spot.key (records self.now.n self.now.numbers.now))))) (count_table (lookup spot.key (records self.now.n self.now.numbers.now))) }
-        ensures { WroteNumbers self.now.n self.now.numbers.now self.now.kept.now self.now.costs sheet.old sheet.new spot len to result }
+        requires { Roomy (length sheet.old) to (length (numbers_here (kept_plan self.now.held.n self.now.held.numbers.now self.now.kept.now self.now.costs spot) len spot.code (count_table (lookup spot.key (records self.now.held.n self.now.held.numbers.now))))) (count_table (lookup spot.key (records self.now.held.n self.now.held.numbers.now))) }
+        ensures { WroteNumbers self.now.held.n self.now.held.numbers.now self.now.kept.now self.now.costs sheet.old sheet.new spot len to result }
     {
-        let plan = plan_of(spot.way, self.mark_of(spot.key));
-        let counts = records::table_of(self.numbers, self.n, spot.key);
+        let plan = plan_of(spot.way, Mark::from(self.mark_of(spot.key)));
+        let counts = self.held.table_of(spot.key);
         let here = Here {
             len,
             code: spot.code,
@@ -155,10 +152,10 @@ impl Listing<'_> {
 
     // The decision at a context: the one kept beside its record, or that of a leaf that costs this where it is not held.
     fn mark_of(&self, key: u32) -> u8
-        ensures { result ≡ kept_mark self.now.n self.now.numbers.now self.now.kept.now self.now.costs key }
+        ensures { result ≡ kept_mark self.now.held.n self.now.held.numbers.now self.now.kept.now self.now.costs key }
     {
-        let at = records::place_of(self.numbers, self.n, key);
-        if stands(self.numbers, self.n, at, key) {
+        let at = self.held.place_of(key);
+        if self.held.stands(at, key) {
             return self.kept[at];
         }
         leaf_mark(self.costs)
@@ -202,17 +199,15 @@ fn put_if(sheet: &mut [u32], to: usize, on: bool, kind: Kind, here: &Here) -> us
     past
 }
 
-// The decision read back.
-fn plan_of(way: Way, mark: u8) -> Plan
-    ensures { result ≡ plan_of way mark }
+// The rows that a decision gives, and what is wanted of the children.
+fn plan_of(way: Way, mark: Mark) -> Plan
+    ensures { result ≡ plan_by way mark }
 {
-    let first = mark / 3 % 2 == 1;
-    let second = mark / 6 == 1;
     if !way.joint {
-        return own_plan(way.first, way.second, first, second);
+        return own_plan(way.first, way.second, mark.first, mark.second);
     }
-    match mark % 3 {
-        0 => Plan {
+    match mark.joint {
+        Choice::Shared => Plan {
             shared: true,
             first: false,
             second: false,
@@ -222,8 +217,8 @@ fn plan_of(way: Way, mark: u8) -> Plan
                 second: false,
             },
         },
-        1 => own_plan(true, true, first, second),
-        _ => Plan {
+        Choice::Separate => own_plan(true, true, mark.first, mark.second),
+        Choice::Split => Plan {
             shared: false,
             first: false,
             second: false,

@@ -107,7 +107,8 @@ fn put_line(buffer: &mut [u8], at: usize, numbers: &[u32], last: i64) -> usize
     put_byte(buffer, end, LINE_FEED)
 }
 
-// Puts a number in decimal digits, after a minus sign where it is negative.
+// Puts a number in decimal digits, after a minus sign where it is negative. Not by `write!`: a writing's clauses say nothing of an `Err`, and cannot
+// say that there is none where there is room, which `Printed` needs.
 fn put_number<I: Integer>(buffer: &mut [u8], at: usize, number: I) -> usize
     requires { HasRoom (I.text number) at buffer.old }
     ensures { Puts (I.text number) at buffer.old buffer.new result }

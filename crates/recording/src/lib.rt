@@ -12,7 +12,7 @@ ghost use Rattle.records.specs.Located.{Ready, Insertable, Inserted, Appended};
 ghost use Rattle.recording.specs.Feeds.{sample_fed};
 ghost use Rattle.recording.specs.Counted.{raised_each, Raisable, with_missing, Growable};
 
-use records::{COUNTS, DESK_SPAN, NEWEST, Sample, Sought, WIDTH, longer, place_of};
+use records::{COUNTS, DESK_SPAN, Held, NEWEST, Sample, Sought, WIDTH, longer};
 
 // A symbol for a sample of a desk's sitting: what one feed names.
 #[derive(Clone, Copy, Debug, PartialEq, Eq)]
@@ -22,6 +22,16 @@ pub struct Feed {
     pub symbol: u32,
 }
 
+// The contexts that a counted symbol follows and that no record has yet: those from length `found` on. `recent` are the symbols before it, most recent
+// first, and a new record counts the symbol at `cell`.
+#[derive(Clone, Copy)]
+struct Missing<'a> {
+    desk: u32,
+    recent: &'a [u32],
+    found: usize,
+    cell: usize,
+}
+
 // Takes a desk's records out of the first `n`. Gives the number of records then.
 pub fn remove_desk(numbers: &mut [u32], n: usize, desk: u32) -> usize
     requires { Removable desk n numbers.old }
@@ -29,8 +39,9 @@ pub fn remove_desk(numbers: &mut [u32], n: usize, desk: u32) -> usize
 {
     let least = desk * DESK_SPAN;
     let past = least + DESK_SPAN;
-    let first = place_of(numbers, n, least);
-    let next = place_of(numbers, n, past);
+    let held = Held { numbers, n };
+    let first = held.place_of(least);
+    let next = held.place_of(past);
     let gone = next - first;
     let from = WIDTH * first;
     let to = WIDTH * n;
@@ -57,7 +68,13 @@ pub fn feed_records(
         return n;
     }
     let places = sought.places;
-    add_missing(numbers, n, feed.desk, recent, found, places[found], cell)
+    let missing = Missing {
+        desk: feed.desk,
+        recent,
+        found,
+        cell,
+    };
+    add_missing(numbers, n, places[found], missing)
 }
 
 // One more at a cell of each record that was found.
@@ -79,46 +96,39 @@ fn raise(numbers: &mut [u32], at: usize)
     numbers[at] += 1;
 }
 
-// New records at a place, for the contexts from length `found` on. Gives the number of records then.
-fn add_missing(
-    numbers: &mut [u32],
-    n: usize,
-    desk: u32,
-    recent: &[u32],
-    found: usize,
-    place: usize,
-    cell: usize,
-) -> usize
-    requires { Growable desk recent.now found place cell n numbers.old }
-    ensures { Written (with_missing desk recent.now found place cell (records n numbers.old)) result numbers.old numbers.new }
+// New records at a place, for the contexts that are missing. Gives the number of records then.
+fn add_missing(numbers: &mut [u32], n: usize, place: usize, missing: Missing) -> usize
+    requires { Growable missing.desk missing.recent.now missing.found place missing.cell n numbers.old }
+    ensures { Written (with_missing missing.entry.desk missing.entry.recent.now missing.entry.found place missing.entry.cell (records n numbers.old)) result numbers.old numbers.new }
 {
-    let more = recent.len() + 1 - found;
+    let more = missing.recent.len() + 1 - missing.found;
     let from = WIDTH * place;
     let to = WIDTH * (n + more);
-    insert(&mut numbers[from..to], desk, recent, found, cell);
+    insert(&mut numbers[from..to], missing);
     n + more
 }
 
-// New records at the front of a part, for the contexts from length `found` on: its last records' room is taken up.
-fn insert(part: &mut [u32], desk: u32, recent: &[u32], found: usize, cell: usize)
-    requires { Insertable desk recent.now found cell part.old }
-    ensures { Inserted desk recent.now found cell part.old part.new }
+// New records at the front of a part, for the contexts that are missing: its last records' room is taken up.
+fn insert(part: &mut [u32], missing: Missing)
+    requires { Insertable missing.desk missing.recent.now missing.found missing.cell part.old }
+    ensures { Inserted missing.entry.desk missing.entry.recent.now missing.entry.found missing.entry.cell part.old part.new }
 {
-    let gap = WIDTH * (recent.len() + 1 - found);
+    let gap = WIDTH * (missing.recent.len() + 1 - missing.found);
     shift_up(part, gap);
-    write_run(&mut part[..gap], desk, recent, found, cell);
+    write_run(&mut part[..gap], missing);
 }
 
 // These records over the whole part, each with one count at a cell.
-fn write_run(part: &mut [u32], desk: u32, recent: &[u32], found: usize, cell: usize)
-    requires { Insertable desk recent.now found cell part.old }
-    ensures { records (length recent.now + 1 - found) part.new ≡ fresh (length recent.now + 1 - found) found desk recent.now cell }
+fn write_run(part: &mut [u32], missing: Missing)
+    requires { Insertable missing.desk missing.recent.now missing.found missing.cell part.old }
+    ensures { records (length missing.entry.recent.now + 1 - missing.entry.found) part.new ≡ fresh (length missing.entry.recent.now + 1 - missing.entry.found) missing.entry.found missing.entry.desk missing.entry.recent.now missing.entry.cell }
 {
-    let mut key = desk * DESK_SPAN;
+    let recent = missing.recent;
+    let mut key = missing.desk * DESK_SPAN;
     let mut eights = NEWEST;
     let all = recent.len() + 1;
     for seen in 0..all {
-        write_past(part, found, seen, key, cell);
+        write_past(part, missing.found, seen, key, missing.cell);
         key = longer(key, eights, recent, seen);
         eights /= 8;
     }

@@ -87,93 +87,101 @@ pub fn counts_at(numbers: &[u32], at: usize) -> [[u32; 8]; 2]
     [first, second]
 }
 
-// The place of a key among the first `n` records, or where it would stand.
-pub fn place_of(numbers: &[u32], n: usize, key: u32) -> usize
-    requires { Standing n numbers.now }
-    ensures { Placed key n result numbers.now }
-{
-    halve(numbers, n, Bounds { low: 0, high: n }, key)
+// The records in use: the first `n` of some numbers, strictly rising in key.
+#[derive(Clone, Copy)]
+pub struct Held<'a> {
+    pub numbers: &'a [u32],
+    pub n: usize,
+    pub ghost standing: { Standing n numbers.now },
 }
 
-// The same, sought from a place on that does not come after it: quick where it is near.
-pub fn place_from(numbers: &[u32], n: usize, from: usize, key: u32) -> usize
-    requires { Onward key n from numbers.now }
-    ensures { Placed key n result numbers.now }
-{
-    let bounds = reach(numbers, n, from, key);
-    halve(numbers, n, bounds, key)
-}
+impl Held<'_> {
+    // The place of a key among the first `n` records, or where it would stand.
+    pub fn place_of(self, key: u32) -> usize
+        ensures { Placed key self.entry.n result self.entry.numbers.now }
+    {
+        self.halve(Bounds { low: 0, high: self.n }, key)
+    }
 
-// Where the contexts that a symbol follows stand, from the shortest to the first that none of the `n` records has.
-// `recent` are the symbols before it, most recent first.
-pub fn seek(numbers: &[u32], n: usize, desk: u32, recent: &[u32]) -> Sought
-    requires { Askable desk recent.now n numbers.now }
-    ensures { Seeks desk recent.now (records n numbers.now) result.found result.places }
-{
-    let mut places = [0usize; 7];
-    let mut key = desk * DESK_SPAN;
-    let mut eights = NEWEST;
-    let mut from = 0;
-    let all = recent.len() + 1;
-    for found in 0..all {
-        let at = place_from(numbers, n, from, key);
-        places[found] = at;
-        if !stands(numbers, n, at, key) {
-            return Sought { found, places };
+    // The same, sought from a place on that does not come after it: quick where it is near.
+    pub fn place_from(self, from: usize, key: u32) -> usize
+        requires { Onward key self.n from self.numbers.now }
+        ensures { Placed key self.entry.n result self.entry.numbers.now }
+    {
+        let bounds = self.reach(from, key);
+        self.halve(bounds, key)
+    }
+
+    // Where the contexts that a symbol follows stand, from the shortest to the first that none of the `n` records has.
+    // `recent` are the symbols before it, most recent first.
+    pub fn seek(self, desk: u32, recent: &[u32]) -> Sought
+        requires { Askable desk recent.now self.n self.numbers.now }
+        ensures { Seeks desk recent.now (records self.entry.n self.entry.numbers.now) result.found result.places }
+    {
+        let mut places = [0usize; 7];
+        let mut key = desk * DESK_SPAN;
+        let mut eights = NEWEST;
+        let mut from = 0;
+        let all = recent.len() + 1;
+        for found in 0..all {
+            let at = self.place_from(from, key);
+            places[found] = at;
+            if !self.stands(at, key) {
+                return Sought { found, places };
+            }
+            key = longer(key, eights, recent, found);
+            eights /= 8;
+            from = at + 1;
         }
-        key = longer(key, eights, recent, found);
-        eights /= 8;
-        from = at + 1;
+        Sought { found: all, places }
     }
-    Sought { found: all, places }
-}
 
-// The counts under a key: zeros where none of the first `n` records has it.
-pub fn table_of(numbers: &[u32], n: usize, key: u32) -> [[u32; 8]; 2]
-    requires { Standing n numbers.now }
-    ensures { result ≡ count_table (lookup key (records n numbers.now)) }
-{
-    let at = place_of(numbers, n, key);
-    if at < n && numbers[WIDTH * at] == key {
-        counts_at(numbers, at)
-    } else {
-        [[0; 8]; 2]
-    }
-}
-
-// Between which places a key stands, from a place on: by doubling the way. A `while`: no method of a slice searches from one end so.
-fn reach(numbers: &[u32], n: usize, from: usize, key: u32) -> Bounds
-    requires { Onward key n from numbers.now }
-    ensures { Bounded key n result.low result.high numbers.now }
-{
-    let mut low = from;
-    let mut at = from;
-    while at < n {
-        if key <= numbers[WIDTH * at] {
-            return Bounds { low, high: at };
+    // The counts under a key: zeros where none of the first `n` records has it.
+    pub fn table_of(self, key: u32) -> [[u32; 8]; 2]
+        ensures { result ≡ count_table (lookup key (records self.entry.n self.entry.numbers.now)) }
+    {
+        let at = self.place_of(key);
+        if at < self.n && self.numbers[WIDTH * at] == key {
+            counts_at(self.numbers, at)
+        } else {
+            [[0; 8]; 2]
         }
-        low = at + 1;
-        at = at + (low - from);
     }
-    Bounds { low, high: n }
-}
 
-// The place of a key that stands between two places: by halving, which is how `partition_point` goes.
-fn halve(numbers: &[u32], n: usize, bounds: Bounds, key: u32) -> usize
-    requires { Bounded key n bounds.low bounds.high numbers.now }
-    ensures { Placed key n result numbers.now }
-{
-    let (whole, _) = numbers.as_chunks::<WIDTH>();
-    let between = &whole[bounds.low..bounds.high];
-    bounds.low + between.partition_point(|held| held[0] < key)
-}
+    // Between which places a key stands, from a place on: by doubling the way. A `while`: no method of a slice searches from one end so.
+    fn reach(self, from: usize, key: u32) -> Bounds
+        requires { Onward key self.n from self.numbers.now }
+        ensures { Bounded key self.entry.n result.low result.high self.entry.numbers.now }
+    {
+        let mut low = from;
+        let mut at = from;
+        while at < self.n {
+            if key <= self.numbers[WIDTH * at] {
+                return Bounds { low, high: at };
+            }
+            low = at + 1;
+            at = at + (low - from);
+        }
+        Bounds { low, high: self.n }
+    }
 
-// Whether the record at a key's place has it.
-pub fn stands(numbers: &[u32], n: usize, at: usize, key: u32) -> bool
-    requires { Standing n numbers.now × Placed key n at numbers.now }
-    ensures { result ≡ held key (records n numbers.now) }
-{
-    at < n && numbers[WIDTH * at] == key
+    // The place of a key that stands between two places: by halving, which is how `partition_point` goes.
+    fn halve(self, bounds: Bounds, key: u32) -> usize
+        requires { Bounded key self.n bounds.low bounds.high self.numbers.now }
+        ensures { Placed key self.entry.n result self.entry.numbers.now }
+    {
+        let (whole, _) = self.numbers.as_chunks::<WIDTH>();
+        let between = &whole[bounds.low..bounds.high];
+        bounds.low + between.partition_point(|held| held[0] < key)
+    }
+
+    // Whether the record at a key's place has it.
+    pub fn stands(self, at: usize, key: u32) -> bool
+        requires { Placed key self.n at self.numbers.now }
+        ensures { result ≡ held key (records self.entry.n self.entry.numbers.now) }
+    {
+        at < self.n && self.numbers[WIDTH * at] == key
+    }
 }
 
 // The key of a context that is longer by the recent symbol at a place: that symbol at its power of eight, and 1 for the length. The same key where none is there.

@@ -5,29 +5,20 @@ use mathlib.Core.Path.{◌≡◌, subst}
 use mathlib.Core.Bool.{true}
 use mathlib.Core.List.{List}
 use lib.ListN.{length}
-use lib.Dec.{eqb→eq}
-use Rattle.numbers.specs.Limits.{desks}
 use Rattle.contexts.specs.Sitting.{first, second}
 use Rattle.replay.specs.Room.{opened}
 use Rattle.replay.specs.Table.{refused}
-use Rattle.store.specs.Layout.{field, size_at}
+use Rattle.store.specs.Layout.{size_at}
 use Rattle.store.specs.Sound.{soundb}
 use Rattle.store.specs.Plain.{Open}
 use Rattle.store.specs.Meaning.{opening_at, progress_at, meaning}
-use Rattle.store.proofs.Fitting.{desk_opened, desk_closed}
+use Rattle.store.proofs.Fitting.{desk_opened}
 use Rattle.weighing.specs.declared.Desk.{Desk}
 use Rattle.report.specs.Desk.{desk_in}
 use Rattle.calls.specs.Promises.{Reports}
-use Rattle.calls.proofs.Reporting.{no_such_desk_lem, not_open, first_empty, second_empty, first_short, second_short, reports_refused}
+use Rattle.calls.proofs.Reporting.{first_empty, second_empty, first_short, second_short, reports_refused}
 
 module _ (s : List ℕ) (d place : ℕ) (sheet : List ℕ) (sound : soundb s ≡ true) where
-  pub told_no_desk : desks ≤ d → Reports s d place (refused 2) sheet sheet
-  told_no_desk h = reports_refused s d place sheet 2 sound (no_such_desk_lem (meaning s) d (length sheet) place h)
-
-  pub told_shut : d < desks → (field s d 0 ≡ 1 → ⊥) → Reports s d place (refused 4) sheet sheet
-  unfolding meaning
-  told_shut h n = reports_refused s d place sheet 4 sound (not_open (meaning s) d (length sheet) place h (desk_closed s d (λ o. n (eqb→eq (field s d 0) 1 o.opened))))
-
   module _ (o : Open s d) where
     at_desk_holds : (meaning s).at d ≡ opened (opening_at s d) (progress_at s d)
     unfolding meaning

@@ -14,6 +14,7 @@ use calls::{Refusal, Reported};
 use door::open_desk;
 use logarithm::LentLogs;
 use numbers::{MOST_ROOM, ROW_WIDTH};
+use records::Held;
 use store::layout::{DEPTH, HEADER, SIZE_FIRST, SIZE_SECOND, SYMBOLS, USED, WEIGHT, field_at};
 use weighing::{Desk, Least};
 
@@ -65,8 +66,9 @@ impl Reportable<'_> {
         requires { most_room ≤ length kept.old }
         ensures { WeighedDesk self.now.store.now self.now.desk.number kept.new result }
     {
-        let used = self.store[USED] as usize;
-        weighing::weigh(logs, &self.store[HEADER..], used, self.desk, kept)
+        let n = self.store[USED] as usize;
+        let numbers = &self.store[HEADER..];
+        weighing::weigh(logs, Held { numbers, n }, self.desk, kept)
     }
 
     // Writes the weighed desk's rows from row `place` on.
@@ -74,12 +76,12 @@ impl Reportable<'_> {
         requires { DecidedDesk self.now.store.now self.now.desk.number kept.now × (place + length (rows.report_of (sitting_at self.now.store.now self.now.desk.number)) ≤ length sheet.old / row_width) }
         ensures { sheet.new ≡ with_rows place (rows.report_of (sitting_at self.now.store.now self.now.desk.number)) sheet.old }
     {
-        let used = self.store[USED] as usize;
+        let n = self.store[USED] as usize;
+        let numbers = &self.store[HEADER..];
         let start = ROW_WIDTH * place as usize;
         listing::write_rows(
             logs,
-            &self.store[HEADER..],
-            used,
+            Held { numbers, n },
             self.desk,
             kept,
             &mut sheet[start..],

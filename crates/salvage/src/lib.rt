@@ -1,9 +1,9 @@
 // Salvages damaged sitting files: each sample is kept up to its first byte that is no symbol, and what was lost is told.
 #![tactic(auto)]
 
-ghost use Rattle.std.specs.Prelude.{◌≡◌, ◌-◌, ◌≤◌, take, drop};
+ghost use Rattle.std.specs.Prelude.{◌≡◌, take, drop};
 ghost use Rattle.sitting_file.specs.Format.{header_of};
-ghost use Rattle.salvage.specs.Salvage.{kept_bytes, refusal_number, salvage_outcome, Within, Salvages};
+ghost use Rattle.salvage.specs.Salvage.{kept_bytes, gone_of, refusal_number, salvage_outcome, Within, Salvages};
 ghost use Rattle.salvage.specs.declared.Refusal.TheVariants.{Header};
 
 use sitting_file::{Shape, header};
@@ -74,20 +74,32 @@ fn save(damaged: &[u8], shape: Shape, at: usize, file: &mut [u8]) -> Result<Salv
 {
     let n = shape.first as usize;
     let m = shape.second as usize;
-    let first = part(damaged, at, n);
-    let first_kept = kept(first, shape.alphabet);
-    let second = part(damaged, at + n, m);
-    let second_kept = kept(second, shape.alphabet);
+    let (first, first_gone) = sample_at(damaged, at, n, shape.alphabet);
+    let (second, second_gone) = sample_at(damaged, at + n, m, shape.alphabet);
     let lost = Lost {
-        first: gone_of(n, first.len(), first_kept.len()),
-        second: gone_of(m, second.len(), second_kept.len()),
+        first: first_gone,
+        second: second_gone,
         cut: damaged.len().saturating_sub(at + n + m) as u64,
     };
     // What is kept is a sitting's, so the writer refuses too few bytes alone.
-    match write(first_kept, second_kept, shape.alphabet, shape.depth, file) {
+    match write(first, second, shape.alphabet, shape.depth, file) {
         Ok(size) => Ok(Salvaged { size, lost }),
         Err(_) => Err(Refusal::BufferShort),
     }
+}
+
+// What is kept of a sample of which so many bytes are wanted from a place on, and what is gone of it.
+#[tactic(auto, using(crate::proofs::Keeping::kept_fits))]
+fn sample_at(bytes: &[u8], from: usize, wanted: usize, alphabet: u32) -> (&[u8], Gone)
+    ensures { (result.0.now ≡ kept_bytes alphabet (take wanted (drop from bytes.now))) × (result.1 ≡ gone_of alphabet wanted (take wanted (drop from bytes.now))) }
+{
+    let there = part(bytes, from, wanted);
+    let saved = kept(there, alphabet);
+    let gone = Gone {
+        missing: (wanted - there.len()) as u64,
+        dropped: (there.len() - saved.len()) as u64,
+    };
+    (saved, gone)
 }
 
 // The bytes wanted from a place on, as far as they exist.
@@ -104,15 +116,4 @@ fn kept(bytes: &[u8], alphabet: u32) -> &[u8]
 {
     let end = bytes.iter().position(|&b| alphabet <= u32::from(b));
     &bytes[..end.unwrap_or(bytes.len())]
-}
-
-// What is gone of a sample of which so many bytes were wanted, were there and were saved.
-fn gone_of(wanted: usize, there: usize, saved: usize) -> Gone
-    requires { (there ≤ wanted) × (saved ≤ there) }
-    ensures { (result.missing ≡ wanted - there) × (result.dropped ≡ there - saved) }
-{
-    Gone {
-        missing: (wanted - there) as u64,
-        dropped: (there - saved) as u64,
-    }
 }

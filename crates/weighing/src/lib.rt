@@ -8,12 +8,13 @@ ghost use Rattle.contexts.specs.Keys.{context_of};
 ghost use Rattle.estimate.specs.Table.{LossesOf};
 ghost use Rattle.records.specs.Held.{record_at, count_table};
 ghost use Rattle.weighing.specs.Trees.{choice};
+ghost use Rattle.weighing.specs.Marks.{number_of_choice, number_of, choice_in, mark_in};
 ghost use Rattle.weighing.specs.Weighs.{CanWeigh, Weighs};
 ghost use Rattle.weighing.specs.Visit.{Countable, CanVisit, Visited, Small, LeafOf, LeafHere, SplitOf, SplitHere, NoneOf, CanAdd, ChildOf, CanAddUnseen, UnseenOf, leaf_mark, split_mark};
 
 use estimate::ByKind;
 use logarithm::LentLogs;
-use records::{DESK_SPAN, stands};
+use records::{DESK_SPAN, Held};
 
 // An open desk: its number, A, D, the weight and the samples' lengths.
 #[derive(Clone, Copy, Debug, PartialEq, Eq)]
@@ -35,16 +36,16 @@ pub struct Least {
     pub rows: u64,
 }
 
-// Weighs the trees of a desk over the first `n` records, and keeps the decision at each of its contexts beside the record.
-pub fn weigh(logs: LentLogs, numbers: &[u32], n: usize, desk: Desk, kept: &mut [u8]) -> Least
-    requires { CanWeigh desk n numbers.now kept.old }
-    ensures { Weighs desk n numbers.now kept.old kept.new result }
+// Weighs the trees of a desk over the records in use, and keeps the decision at each of its contexts beside the record.
+// What may not change: callers lend bytes, and `Decided` promises decisions as numbers, so `kept` is no slice of `Mark`.
+pub fn weigh(logs: LentLogs, held: Held, desk: Desk, kept: &mut [u8]) -> Least
+    requires { CanWeigh desk held.n held.numbers.now kept.old }
+    ensures { Weighs desk held.entry.n held.entry.numbers.now kept.old kept.new result }
 {
     let costs = estimate::costs_of(logs, desk.weight, desk.symbols, desk.n, desk.m);
     let walk = Walk {
         logs,
-        numbers,
-        n,
+        held,
         desk,
         costs,
     };
@@ -54,8 +55,8 @@ pub fn weigh(logs: LentLogs, numbers: &[u32], n: usize, desk: Desk, kept: &mut [
         span: DESK_SPAN,
         left: desk.depth,
     };
-    let at = records::place_of(numbers, n, key);
-    let w = if stands(numbers, n, at, key) {
+    let at = held.place_of(key);
+    let w = if held.stands(at, key) {
         walk.visit(kept, root, at)
     } else {
         as_leaf(costs, at)
@@ -87,13 +88,75 @@ pub struct Weighed {
     pub next: usize,
 }
 
-// What stays the same all through a walk: the logarithms that are lent, the first `n` records of some numbers, the desk, and what a context of
-// each kind costs.
+// What stands at a context: a shared leaf, two separate trees, or a split of both.
+#[derive(Clone, Copy, Debug, PartialEq, Eq)]
+pub enum Choice {
+    Shared,
+    Separate,
+    Split,
+}
+
+// The decision at a context: what stands there, and which own trees split.
+#[derive(Clone, Copy, Debug, PartialEq, Eq)]
+pub struct Mark {
+    pub joint: Choice,
+    pub first: bool,
+    pub second: bool,
+}
+
+// 0, 1 or 2.
+impl From<Choice> for u8 {
+    ghost from_gives = { λ choice result. result ≡ number_of_choice choice };
+
+    fn from(choice: Choice) -> u8 {
+        match choice {
+            Choice::Shared => 0,
+            Choice::Separate => 1,
+            Choice::Split => 2,
+        }
+    }
+}
+
+// The number that is kept beside a record for a decision ..
+impl From<Mark> for u8 {
+    ghost from_gives = { λ mark result. result ≡ number_of mark };
+
+    fn from(mark: Mark) -> u8 {
+        u8::from(mark.joint) + 3 * u8::from(mark.first) + 6 * u8::from(mark.second)
+    }
+}
+
+// .. and read back.
+impl From<u8> for Mark {
+    ghost from_gives = { λ number result. result ≡ mark_in number };
+
+    fn from(number: u8) -> Mark {
+        let first = number / 3 % 2 == 1;
+        let second = number / 6 == 1;
+        let joint = choice_in(number);
+        Mark {
+            joint,
+            first,
+            second,
+        }
+    }
+}
+
+fn choice_in(number: u8) -> Choice
+    ensures { result ≡ choice_in number }
+{
+    match number % 3 {
+        0 => Choice::Shared,
+        1 => Choice::Separate,
+        _ => Choice::Split,
+    }
+}
+
+// What stays the same all through a walk: the logarithms that are lent, the records in use, the desk, and what a context of each kind costs.
 #[derive(Clone, Copy)]
 struct Walk<'a> {
     logs: LentLogs<'a>,
-    numbers: &'a [u32],
-    n: usize,
+    held: Held<'a>,
     desk: Desk,
     costs: ByKind,
 }
@@ -102,8 +165,8 @@ impl Walk<'_> {
     // The trees at a held context, whose place the walk has come to. A child that is not held is answered without a call.
     // The decision at each record of the context's block is kept beside it.
     fn visit(&self, kept: &mut [u8], here: Context, at: usize) -> Weighed
-        requires { CanVisit self.now.desk self.now.costs self.now.n self.now.numbers.now kept.old here at }
-        ensures { Visited self.now.desk self.now.n self.now.numbers.now (context_of here.key) here.left at kept.old kept.new result }
+        requires { CanVisit self.now.desk self.now.costs self.now.held.n self.now.held.numbers.now kept.old here at }
+        ensures { Visited self.now.desk self.now.held.n self.now.held.numbers.now (context_of here.key) here.left at kept.old kept.new result }
     {
         let own = self.losses_at(at);
         if here.left == 0 {
@@ -114,7 +177,7 @@ impl Walk<'_> {
         let mut children = none_yet(at + 1);
         for _ in 0..self.desk.symbols {
             let next = children.next;
-            if stands(self.numbers, self.n, next, key) {
+            if self.held.stands(next, key) {
                 let left = here.left - 1;
                 let child = Context { key, span, left };
                 children = and_child(children, self.visit(kept, child, next));
@@ -128,10 +191,10 @@ impl Walk<'_> {
 
     // The losses of the context of the record at a place.
     fn losses_at(&self, at: usize) -> ByKind
-        requires { Countable self.now.numbers.now at self.now.costs }
-        ensures { LossesOf (count_table (record_at at self.now.numbers.now)) self.now.costs result }
+        requires { Countable self.now.held.numbers.now at self.now.costs }
+        ensures { LossesOf (count_table (record_at at self.now.held.numbers.now)) self.now.costs result }
     {
-        estimate::losses_of(self.logs, records::counts_at(self.numbers, at), self.costs)
+        estimate::losses_of(self.logs, records::counts_at(self.held.numbers, at), self.costs)
     }
 }
 
@@ -244,31 +307,41 @@ fn of_less(x: u64, y: u64, of_x: u64, of_y: u64) -> u64
     if x <= y { of_x } else { of_y }
 }
 
-// The decision at a leaf with these losses.
+// The decision at a leaf with these losses, as a number: no own tree splits there.
 pub fn leaf_mark(own: ByKind) -> u8
     requires { Small own }
     ensures { result ≡ leaf_mark own }
 {
-    u8::from(own.shared > own.first + own.second)
+    if own.shared <= own.first + own.second {
+        u8::from(Choice::Shared)
+    } else {
+        u8::from(Choice::Separate)
+    }
 }
 
-// The decision at a context over children that lose this together.
+// The decision at a context over children that lose this together, as a number.
 fn split_mark(own: ByKind, below: ByKind) -> u8
     requires { Small own }
     ensures { result ≡ split_mark own below }
 {
     let apart = own.first.min(below.first) + own.second.min(below.second);
-    choice_of(own.shared, apart, below.shared)
-        + 3 * u8::from(own.first > below.first)
-        + 6 * u8::from(own.second > below.second)
+    u8::from(Mark {
+        joint: choice_of(own.shared, apart, below.shared),
+        first: own.first > below.first,
+        second: own.second > below.second,
+    })
 }
 
 // Of a shared leaf, two separate trees and a split of both, the first that loses least.
-fn choice_of(leaf: u64, apart: u64, split: u64) -> u8
-    ensures { (result ≡ choice leaf apart split) × (result ≤ 2) }
+fn choice_of(leaf: u64, apart: u64, split: u64) -> Choice
+    ensures { number_of_choice result ≡ choice leaf apart split }
 {
     if leaf <= apart.min(split) {
-        return 0;
+        return Choice::Shared;
     }
-    if apart <= split { 1 } else { 2 }
+    if apart <= split {
+        Choice::Separate
+    } else {
+        Choice::Split
+    }
 }

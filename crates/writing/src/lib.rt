@@ -30,6 +30,50 @@ impl From<Refusal> for u32 {
     }
 }
 
+// A sitting whose values are within their limits: the numbers of its header, and its samples.
+#[derive(Clone, Copy)]
+struct Sitting<'a> {
+    shape: Shape,
+    first: &'a [u8],
+    second: &'a [u8],
+    ghost in_limits: { InLimits shape },
+    ghost first_below: { Below shape.alphabet first.now },
+    ghost second_below: { Below shape.alphabet second.now },
+}
+
+impl Sitting<'_> {
+    // How many bytes its file has. A and D have a byte each.
+    fn file_size(&self) -> usize
+        ensures { result ≡ 2 + (length (shortest self.now.shape.first) + length (shortest self.now.shape.second)) + (self.now.shape.first + self.now.shape.second) }
+    {
+        let shape = self.shape;
+        2 + number_size(shape.first)
+            + number_size(shape.second)
+            + (shape.first + shape.second) as usize
+    }
+
+    // Puts its file at the start of bytes that have room for it, and answers its length.
+    fn put_file(&self, file: &mut [u8]) -> usize
+        requires { HasRoom (written (with_header self.now.shape (self.now.first.now ++ self.now.second.now))) 0 file.old }
+        ensures { Puts (written (with_header self.now.shape (self.now.first.now ++ self.now.second.now))) 0 file.old file.new result }
+    {
+        let at = self.put_header(file);
+        let middle = put_bytes(file, at, self.first);
+        put_bytes(file, middle, self.second)
+    }
+
+    // Puts the four numbers of its header at the start, and answers the place after them.
+    fn put_header(&self, file: &mut [u8]) -> usize
+        requires { HasRoom (written (with_header self.now.shape [])) 0 file.old }
+        ensures { Puts (written (with_header self.now.shape [])) 0 file.old file.new result }
+    {
+        let past_alphabet = put_number(file, 0, self.shape.alphabet);
+        let past_depth = put_number(file, past_alphabet, self.shape.depth);
+        let past_first = put_number(file, past_depth, self.shape.first);
+        put_number(file, past_first, self.shape.second)
+    }
+}
+
 // Writes the file of a sitting at the start of the bytes lent, and answers how many bytes it has. Those past its end stay.
 pub fn write(
     first: &[u8],
@@ -49,10 +93,15 @@ pub fn write(
         first: first.len() as u32,
         second: second.len() as u32,
     };
-    if file.len() < file_size(shape) {
+    let sitting = Sitting {
+        shape,
+        first,
+        second,
+    };
+    if file.len() < sitting.file_size() {
         return Err(Refusal::BufferShort);
     }
-    let size = put_file(file, shape, first, second);
+    let size = sitting.put_file(file);
     Ok(size)
 }
 
@@ -76,41 +125,12 @@ fn all_below(symbols: &[u8], alphabet: u32) -> bool
     symbols.iter().all(|&a| u32::from(a) < alphabet)
 }
 
-// How many bytes the file of such samples has. A and D have a byte each.
-fn file_size(shape: Shape) -> usize
-    requires { InLimits shape }
-    ensures { result ≡ 2 + (length (shortest shape.first) + length (shortest shape.second)) + (shape.first + shape.second) }
-{
-    2 + number_size(shape.first) + number_size(shape.second) + (shape.first + shape.second) as usize
-}
-
 // How many bytes a number's shortest form has.
 #[tactic(auto, unfolding(sitting_file::specs::Verdict::shortest))]
 fn number_size(value: u32) -> usize
     ensures { (result ≡ length (shortest value)) × (result ≤ 2) }
 {
     if value < HIGH_BIT { 1 } else { 2 }
-}
-
-// Puts a sitting's file at the start of bytes that have room for it, and answers its length.
-fn put_file(file: &mut [u8], shape: Shape, first: &[u8], second: &[u8]) -> usize
-    requires { InLimits shape × Below shape.alphabet first.now × Below shape.alphabet second.now × HasRoom (written (with_header shape (first.now ++ second.now))) 0 file.old }
-    ensures { Puts (written (with_header shape (first.now ++ second.now))) 0 file.old file.new result }
-{
-    let at = put_header(file, shape);
-    let middle = put_bytes(file, at, first);
-    put_bytes(file, middle, second)
-}
-
-// Puts the four numbers of a header at the start, and answers the place after them.
-fn put_header(file: &mut [u8], shape: Shape) -> usize
-    requires { InLimits shape × HasRoom (written (with_header shape [])) 0 file.old }
-    ensures { Puts (written (with_header shape [])) 0 file.old file.new result }
-{
-    let past_alphabet = put_number(file, 0, shape.alphabet);
-    let past_depth = put_number(file, past_alphabet, shape.depth);
-    let past_first = put_number(file, past_depth, shape.first);
-    put_number(file, past_first, shape.second)
 }
 
 // Puts a number in its shortest form at a place, and answers the place after it.

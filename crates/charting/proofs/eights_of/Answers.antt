@@ -2,7 +2,6 @@
 use mathlib.Core.Path.{◌≡◌, refl}
 use Prim.Native.Nat.{ℕ, ◌-◌, ◌*◌, ◌%◌, ◌^◌, ◌<◌}
 use native.Mathlib.Omega.{arith}
-use borrow.Author.Rules.{rules}
 use Rattle.contexts.proofs.Digits.{each_length}
 use Rattle.numbers.specs.Limits.{deepest}
 use Rattle.charting.proofs.eights_of.Goals as goal

@@ -1,5 +1,4 @@
 -- `desks::close` meets its contract: stopped at the door, or the desk is shut. Assumes nothing.
-use Rattle.std.proofs.Common.{rules}
 use Rattle.std.proofs.lemmas.Result.{err_from_is_err_and}
 use Rattle.calls.proofs.Keeping.{moves_stopped}
 use Rattle.changes.proofs.Shutting.{closed_moves}

@@ -3,8 +3,7 @@ use mathlib.Core.Path.{◌≡◌, sym, ◌∙◌}
 use mathlib.Core.Bool.{true}
 use native.Mathlib.Omega.{arith}
 use lib.Dec.{eqb→eq}
-use borrow.Author.Tests.{not-true, not-false, le-ltb, lt-ltb}
-use borrow.Author.Rules.{rules}
+use borrow.Author.Tests.{le-ltb, lt-ltb}
 use Rattle.numbers.specs.Limits.{most_weight}
 use Rattle.numbers.proofs.Orders.{eq→eqb}
 use Rattle.replay.specs.Machine.{at_desk, opening, weight_outside}

@@ -1,7 +1,6 @@
 -- `desks::open_reserving` meets its contract: one law of Granting for each way through it. Assumes nothing.
 use native.Mathlib.Omega.{arith}
 use Prim.Native.Nat.{◌≤◌}
-use borrow.Author.Rules.{rules}
 use Rattle.replay.specs.Machine.{at_desk, opening}
 use Rattle.store.specs.Meaning.{meaning}
 use Rattle.store.proofs.Passing.{header_long}

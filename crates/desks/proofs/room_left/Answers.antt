@@ -1,8 +1,6 @@
 -- `desks::room_left` meets its contract. Assumes nothing.
 use mathlib.Core.Path.{◌≡◌, sym, ◌∙◌}
 use mathlib.Core.Bool.{true}
-use borrow.Author.Tests.{not-true, not-false}
-use borrow.Author.Rules.{rules}
 use Rattle.replay.specs.Table.{answered}
 use Rattle.replay.specs.Machine.{room_question}
 use Rattle.rules.specs.Rules.{contexts_left}

@@ -1,5 +1,4 @@
 -- `desks::set_up` meets its contract. Assumes nothing.
-use borrow.Author.Rules.{rules}
 use Rattle.desks.specs.Named.{opening_of}
 use Rattle.changes.proofs.Laying.{opened_now}
 use Rattle.desks.proofs.set_up.Goals as goal

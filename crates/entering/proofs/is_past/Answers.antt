@@ -12,19 +12,24 @@ returns-then-recent-found c =
 pub bounds-store-1 : goal.bounds-store-1
 bounds-store-1 c = omega (arith, header_long c.args.store.now c.requires.sound)
 
-pub overflow_cast-many : goal.overflow_cast-many
-overflow_cast-many c = omega (arith, c.type_inv.store 1)
+pub overflow_cast-n : goal.overflow_cast-n
+overflow_cast-n c = omega (arith, c.type_inv.store 1)
 
-pub slice_bounds-held_by-count : goal.slice_bounds-held_by-count
-slice_bounds-held_by-count c = omega (arith, header_long c.args.store.now c.requires.sound)
+pub slice_bounds-numbers-count : goal.slice_bounds-numbers-count
+slice_bounds-numbers-count c = omega (arith, header_long c.args.store.now c.requires.sound)
 
-pub slice_bounds-held_by-start : goal.slice_bounds-held_by-start
-slice_bounds-held_by-start c = omega (arith, header_long c.args.store.now c.requires.sound)
+pub slice_bounds-numbers-start : goal.slice_bounds-numbers-start
+slice_bounds-numbers-start c = omega (arith, header_long c.args.store.now c.requires.sound)
 
 pub bounds-places-found : goal.bounds-places-found
 bounds-places-found c =
     let x = c.args in
     few_places x.store.now x.desk x.recent.now x.sought.found x.sought.places c.requires c.if-recent-found.false
+
+pub invariant_of-held_by : goal.invariant_of-held_by
+invariant_of-held_by c =
+    let x = c.args in
+    record { standing = (spanned x.store.now x.desk x.recent.now x.sought.found x.sought.places c.requires c.if-recent-found.false).standing }
 
 pub held_by-held-requires : goal.held_by-held-requires
 held_by-held-requires c =

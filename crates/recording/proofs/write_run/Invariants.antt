@@ -7,4 +7,4 @@ use Rattle.recording.proofs.write_run.Given as goal
 
 abbrev pub invariant-loop-seen : goal.invariant-loop-seen
 invariant-loop-seen l =
-    Walk l.desk l.recent l.key l.eights l.seen × (length l.part ≡ length l.initial.part) × Run l.desk l.recent l.found l.cell l.seen l.part
+    Walk l.missing.desk l.recent l.key l.eights l.seen × (length l.part ≡ length l.initial.part) × Run l.missing.desk l.recent l.missing.found l.missing.cell l.seen l.part

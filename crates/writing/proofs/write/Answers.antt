@@ -32,10 +32,11 @@ overflow_cast-shape-2 c =
     let s = c.args in
     record { fits = omega (arith, (values s.alphabet s.depth s.first.now s.second.now c.if-not-good_values.ensures).limits.second_high) }
 
-pub file_size-requires : goal.file_size-requires
-file_size-requires c =
+pub invariant_of-sitting : goal.invariant_of-sitting
+invariant_of-sitting c =
     let s = c.args in
-    (values s.alphabet s.depth s.first.now s.second.now c.if-not-good_values.ensures).limits
+    let good = values s.alphabet s.depth s.first.now s.second.now c.if-not-good_values.ensures in
+    record { in_limits = good.limits; first_below = good.first_below; second_below = good.second_below }
 
 pub returns-then-file-file_size : goal.returns-then-file-file_size
 returns-then-file-file_size c =
@@ -46,8 +47,7 @@ returns-then-file-file_size c =
 pub put_file-size-requires : goal.put_file-size-requires
 put_file-size-requires c =
     let s = c.args in
-    let good = values s.alphabet s.depth s.first.now s.second.now c.if-not-good_values.ensures in
-    (good.limits, good.first_below, good.second_below, omega (arith, size s.alphabet s.depth s.first.now s.second.now c.if-not-good_values.ensures _ c.file_size.ensures))
+    omega (arith, size s.alphabet s.depth s.first.now s.second.now c.if-not-good_values.ensures _ c.file_size.ensures)
 
 pub returns : goal.returns
 returns c =

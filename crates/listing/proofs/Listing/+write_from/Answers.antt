@@ -53,7 +53,7 @@ write_from-past-requires t c =
     let e = (goal.at.write_from-past-requires t c).Else-not-goes_on in
     let long : length m.sheet ≡ length x.sheet.now = m.auto.sheet ∙ h.auto.sheet in (
       omega (arith, c.decreases, more t e),
-      subst₂ (λ (top : ℕ) (u : List ℕ). CanWrite k.desk k.costs k.n k.numbers.now k.kept.now top u (child t e m.key m.code) m.past) (sym long) (sym (onward.onward_is c.requires (more t e) m.invariant lt))
+      subst₂ (λ (top : ℕ) (u : List ℕ). CanWrite k.desk k.costs k.held.n k.held.numbers.now k.kept.now top u (child t e m.key m.code) m.past) (sym long) (sym (onward.onward_is c.requires (more t e) m.invariant lt))
           (onward.onward_can c.requires (more t e) m.invariant lt (reporting.child_room c.requires h.ensures (on t e))),
     )
 
@@ -72,7 +72,7 @@ loop-preserved t c =
     let g = c.write_from-past in
     let e = (goal.at.loop-preserved t c).Else-not-goes_on in
     onward.onward_next c.requires (more t e) m.invariant lt h.auto.sheet (reporting.child_room c.requires h.ensures (on t e)) g.new.sheet g.result
-    (subst (λ (u : List ℕ). WroteAt m.sheet g.new.sheet m.past (rows_from k.desk k.n k.numbers.now u (child t e m.key m.code)) g.result) (onward.onward_is c.requires (more t e) m.invariant lt) g.ensures)
+    (subst (λ (u : List ℕ). WroteAt m.sheet g.new.sheet m.past (rows_from k.desk k.held.n k.held.numbers.now u (child t e m.key m.code)) g.result) (onward.onward_is c.requires (more t e) m.invariant lt) g.ensures)
 
 pub returns : goal.returns
 returns t c =

@@ -9,4 +9,4 @@ decreases-write_from l = l.spot.left
 
 abbrev pub invariant-loop : goal.invariant-loop
 invariant-loop l =
-    Onward l.self.desk l.self.n l.self.numbers.now (context_of l.spot.key) (l.spot.left - 1) l.span l.spot.power l.way l.initial.past l.counter l.key l.code l.initial.sheet l.sheet l.past
+    Onward l.self.desk l.self.held.n l.self.held.numbers.now (context_of l.spot.key) (l.spot.left - 1) l.span l.spot.power l.way l.initial.past l.counter l.key l.code l.initial.sheet l.sheet l.past

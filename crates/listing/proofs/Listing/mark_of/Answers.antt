@@ -11,5 +11,5 @@ pub bounds-self-at : goal.bounds-self-at
 bounds-self-at c =
     let x = c.args.self.now in
     let p = c.place_of-at in
-    let on = of_true (held c.args.key (records x.n x.numbers.now)) (sym c.stands.ensures ∙ c.if-stands.true) in
-    omega (arith, (held_there c.args.key x.n p.result x.numbers.now x.readable.standing.rising p.ensures.at on).0, x.readable.beside)
+    let on = of_true (held c.args.key (records x.held.n x.held.numbers.now)) (sym c.stands.ensures ∙ c.if-stands.true) in
+    omega (arith, (held_there c.args.key x.held.n p.result x.held.numbers.now x.held.standing.rising p.ensures.at on).0, x.readable.beside)

@@ -6,14 +6,17 @@ use mathlib.Core.List.{List}
 use Rattle.records.proofs.Lent.{tail_lent}
 use Rattle.store.specs.Layout.{header_size, used}
 use Rattle.weighing.specs.Weighs.{Weighs}
-use Rattle.report.proofs.ByValue.{sized, can_weigh, has_weighed}
+use Rattle.report.proofs.ByValue.{sized, standing_lent, can_weigh, has_weighed}
 use Rattle.report.proofs.Reportable.weighed.Goals as goal
 
-pub slice_bounds-weigh-count : goal.slice_bounds-weigh-count
-slice_bounds-weigh-count c = let h = sized c.args.self.now.store.now c.args.self.now.desk c.args.self.now.can in omega arith
+pub slice_bounds-numbers-count : goal.slice_bounds-numbers-count
+slice_bounds-numbers-count c = let h = sized c.args.self.now.store.now c.args.self.now.desk c.args.self.now.can in omega arith
 
-pub slice_bounds-weigh-start : goal.slice_bounds-weigh-start
-slice_bounds-weigh-start c = let h = sized c.args.self.now.store.now c.args.self.now.desk c.args.self.now.can in omega arith
+pub slice_bounds-numbers-start : goal.slice_bounds-numbers-start
+slice_bounds-numbers-start c = let h = sized c.args.self.now.store.now c.args.self.now.desk c.args.self.now.can in omega arith
+
+pub invariant_of-weigh : goal.invariant_of-weigh
+invariant_of-weigh c = record { standing = standing_lent c.args.self.now.store.now c.args.self.now.desk c.args.self.now.can }
 
 pub weigh-requires : goal.weigh-requires
 weigh-requires c =

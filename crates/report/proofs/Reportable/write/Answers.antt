@@ -9,14 +9,17 @@ use Rattle.records.proofs.Lent.{tail_lent}
 use Rattle.store.specs.Layout.{header_size, used}
 use Rattle.listing.specs.Writing.{Listed}
 use Rattle.report.proofs.Writing.{can_write, has_written}
-use Rattle.report.proofs.ByValue.{sized}
+use Rattle.report.proofs.ByValue.{sized, standing_lent}
 use Rattle.report.proofs.Reportable.write.Goals as goal
 
-pub slice_bounds-write_rows-count : goal.slice_bounds-write_rows-count
-slice_bounds-write_rows-count c = let h = sized c.args.self.now.store.now c.args.self.now.desk c.args.self.now.can in omega arith
+pub slice_bounds-numbers-count : goal.slice_bounds-numbers-count
+slice_bounds-numbers-count c = let h = sized c.args.self.now.store.now c.args.self.now.desk c.args.self.now.can in omega arith
 
-pub slice_bounds-write_rows-start : goal.slice_bounds-write_rows-start
-slice_bounds-write_rows-start c = let h = sized c.args.self.now.store.now c.args.self.now.desk c.args.self.now.can in omega arith
+pub slice_bounds-numbers-start : goal.slice_bounds-numbers-start
+slice_bounds-numbers-start c = let h = sized c.args.self.now.store.now c.args.self.now.desk c.args.self.now.can in omega arith
+
+pub invariant_of-write_rows : goal.invariant_of-write_rows
+invariant_of-write_rows c = record { standing = standing_lent c.args.self.now.store.now c.args.self.now.desk c.args.self.now.can }
 
 pub write_rows-requires : goal.write_rows-requires
 write_rows-requires c =

@@ -8,4 +8,4 @@ abbrev pub decreases-visit : goal.decreases-visit
 decreases-visit l = l.here.left
 
 abbrev pub invariant-loop : goal.invariant-loop
-invariant-loop l = Turn l.self.desk l.self.n l.self.numbers.now (context_of l.here.key) (l.here.left - 1) l.at l.span l.counter l.key l.initial.kept l.kept l.children
+invariant-loop l = Turn l.self.desk l.self.held.n l.self.held.numbers.now (context_of l.here.key) (l.here.left - 1) l.at l.span l.counter l.key l.initial.kept l.kept l.children
