@@ -10,6 +10,7 @@ ghost use Rattle.records.specs.Samples.{number_of};
 ghost use Rattle.records.specs.Held.{keep, of_desk};
 ghost use Rattle.records.specs.Fed.{Askable};
 ghost use Rattle.records.specs.Located.{Located, Seeks};
+ghost use Rattle.recording.specs.Feeds.{sample_fed};
 ghost use Rattle.store.specs.Layout.{header_size, desk_start, size_field, recent_field, used, depth_at, reserve_at, size_at, slots_at, records_in};
 ghost use Rattle.store.specs.Sound.{soundb, held_by};
 ghost use Rattle.store.specs.Plain.{Open};
@@ -17,7 +18,7 @@ ghost use Rattle.changes.specs.FedStore.{shifted, recent_at, is_counted, Accepta
 ghost use Rattle.entering.specs.Seeking.{Found, Spanned};
 ghost use Rattle.changes.specs.Noted.{noted, Places};
 
-use recording::feed_records;
+use recording::{Feed, feed_records};
 use records::{DESK_SPAN, Held, Sample, Sought, numbers_at};
 use store::layout::{
     DESK_SIZE, DeskNumbers, FIRST_DESK, HEADER, RECENT_FIRST, SIZE_FIRST, SLOTS, USED,
@@ -101,42 +102,36 @@ fn held_by(held: Held, desk: u32, first: usize, from: usize) -> usize
 }
 
 // Writes an accepted feed that is counted: the records, then the header. `recent` are the symbols before it, most recent first.
-pub fn write_feed(
-    store: &mut [u32],
-    desk: u32,
-    sample: Sample,
-    symbol: u32,
-    recent: &[u32],
-    sought: Sought,
-)
-    requires { Acceptable store.old desk (sample_of (number_of sample)) symbol × (recent.now ≡ recent_at store.old desk (sample_of (number_of sample))) × Located desk recent.now (records_in store.old) sought.found sought.places × (is_counted store.old desk (sample_of (number_of sample)) ≡ true) }
-    ensures { FedStore store.old store.new desk (sample_of (number_of sample)) symbol }
+// `is_counted` and `recent_of` take a desk and a sample: a `Feed` would be no plainer there, since they read no symbol.
+pub fn write_feed(store: &mut [u32], feed: Feed, recent: &[u32], sought: Sought)
+    requires { Acceptable store.old feed.desk (sample_fed feed) feed.symbol × (recent.now ≡ recent_at store.old feed.desk (sample_fed feed)) × Located feed.desk recent.now (records_in store.old) sought.found sought.places × (is_counted store.old feed.desk (sample_fed feed) ≡ true) }
+    ensures { FedStore store.old store.new feed.desk (sample_fed feed) feed.symbol }
 {
     let many = store[USED] as usize;
     let body = &mut store[HEADER..];
-    let count = feed_records(body, many, desk, sample, symbol, recent, sought);
-    note_at(store, desk, sample, symbol, count as u32);
+    let count = feed_records(body, many, feed, recent, sought);
+    note_at(store, feed, count as u32);
 }
 
 // Writes an accepted feed that is not counted: the header alone.
-pub fn write_header(store: &mut [u32], desk: u32, sample: Sample, symbol: u32)
-    requires { Acceptable store.old desk (sample_of (number_of sample)) symbol × (is_counted store.old desk (sample_of (number_of sample)) ≡ false) }
-    ensures { FedStore store.old store.new desk (sample_of (number_of sample)) symbol }
+pub fn write_header(store: &mut [u32], feed: Feed)
+    requires { Acceptable store.old feed.desk (sample_fed feed) feed.symbol × (is_counted store.old feed.desk (sample_fed feed) ≡ false) }
+    ensures { FedStore store.old store.new feed.desk (sample_fed feed) feed.symbol }
 {
     let many = store[USED];
-    note_at(store, desk, sample, symbol, many);
+    note_at(store, feed, many);
 }
 
-// Notes a feed at a desk, in the places of its sample.
-fn note_at(store: &mut [u32], desk: u32, sample: Sample, symbol: u32, used: u32)
-    requires { (desk < desks) × (header_size ≤ length store.old) × (size_at store.old desk (sample_of (number_of sample)) < longest) }
-    ensures { store.new ≡ noted used (desk_start desk + size_field (sample_of (number_of sample))) (desk_start desk + recent_field (sample_of (number_of sample))) symbol store.old }
+// Notes a feed at its desk, in the places of its sample.
+fn note_at(store: &mut [u32], feed: Feed, used: u32)
+    requires { (feed.desk < desks) × (header_size ≤ length store.old) × (size_at store.old feed.desk (sample_fed feed) < longest) }
+    ensures { store.new ≡ noted used (desk_start feed.desk + size_field (sample_fed feed)) (desk_start feed.desk + recent_field (sample_fed feed)) feed.symbol store.old }
 {
-    let start = FIRST_DESK + DESK_SIZE * desk as usize;
-    let i = sample.index();
+    let start = FIRST_DESK + DESK_SIZE * feed.desk as usize;
+    let i = feed.sample.index();
     let size = start + (SIZE_FIRST + i);
     let slots = start + (RECENT_FIRST + SLOTS * i);
-    note(store, used, size, slots, symbol);
+    note(store, used, size, slots, feed.symbol);
 }
 
 // Notes a feed in the header: how many records there are, one more symbol in the sample, and the symbol first of the recent ones.

@@ -2,20 +2,21 @@
 #![tactic(auto)]
 
 ghost use Rattle.std.specs.Prelude.{◌≡◌, true};
-ghost use Rattle.contexts.specs.Sitting.{sample_of};
-ghost use Rattle.records.specs.Samples.{number_of};
 ghost use Rattle.replay.specs.Machine.{at_desk, asking};
 ghost use Rattle.store.specs.Sound.{soundb};
 ghost use Rattle.rules.specs.Rules.{feed};
 ghost use Rattle.calls.specs.Refusals.{outcome_of};
 ghost use Rattle.calls.specs.Promises.{Moves};
-ghost use Rattle.changes.specs.FedStore.{Judged, recent_at, is_counted};
+ghost use Rattle.changes.specs.FedStore.{recent_at};
 ghost use Rattle.calls.specs.Run.{Runs};
+ghost use Rattle.recording.specs.Feeds.{sample_fed};
+ghost use Rattle.feeding.specs.Feeds.{call_of, JudgedFeed, CountedFeed};
 
 use calls::{Fed, Refusal};
 use door::open_at;
 use entering::{is_counted, is_past, recent_of, seek_in, write_feed, write_header};
 use numbers::LONGEST;
+use recording::Feed;
 use records::Sample;
 use soundness::sound;
 use store::layout::DeskNumbers;
@@ -78,47 +79,47 @@ fn feed_sound(store: &mut [u32], desk: u32, sample: u32, symbol: u32) -> Result<
     if LONGEST <= numbers.size(which) {
         return Err(Refusal::SampleFull);
     }
-    feed_judged(store, desk, which, symbol)
+    let feed = Feed {
+        desk,
+        sample: which,
+        symbol,
+    };
+    feed_judged(store, feed)
 }
 
 // What the other refusals left of a feed: where its place is not counted, the header alone is written.
-fn feed_judged(store: &mut [u32], desk: u32, sample: Sample, symbol: u32) -> Result<(), Refusal>
-    requires { Judged store.old desk (number_of sample) symbol }
-    ensures { Moves store.old (at_desk desk (asking (feed (number_of sample) symbol))) (outcome_of result) store.new }
+// What these three ask of the store stays in their clauses: no plainer as a type's, which would hold only until the store is written.
+fn feed_judged(store: &mut [u32], feed: Feed) -> Result<(), Refusal>
+    requires { JudgedFeed store.old feed }
+    ensures { Moves store.old (call_of feed) (outcome_of result) store.new }
 {
-    if is_counted(store, desk, sample) {
-        return feed_counted(store, desk, sample, symbol);
+    if is_counted(store, feed.desk, feed.sample) {
+        return feed_counted(store, feed);
     }
-    write_header(store, desk, sample, symbol);
+    write_header(store, feed);
     Ok(())
 }
 
 // A feed that is counted, after the symbols that it follows are copied.
-fn feed_counted(store: &mut [u32], desk: u32, sample: Sample, symbol: u32) -> Result<(), Refusal>
-    requires { Judged store.old desk (number_of sample) symbol × (is_counted store.old desk (sample_of (number_of sample)) ≡ true) }
-    ensures { Moves store.old (at_desk desk (asking (feed (number_of sample) symbol))) (outcome_of result) store.new }
+fn feed_counted(store: &mut [u32], feed: Feed) -> Result<(), Refusal>
+    requires { CountedFeed store.old feed }
+    ensures { Moves store.old (call_of feed) (outcome_of result) store.new }
 {
-    let latest = recent_of(store, desk, sample);
+    let latest = recent_of(store, feed.desk, feed.sample);
     let symbols = latest.symbols;
     let many = latest.many;
-    feed_after(store, desk, sample, symbol, &symbols[..many])
+    feed_after(store, feed, &symbols[..many])
 }
 
 // Refusal 10, or the feed of a symbol that follows `recent` and is counted.
-fn feed_after(
-    store: &mut [u32],
-    desk: u32,
-    sample: Sample,
-    symbol: u32,
-    recent: &[u32],
-) -> Result<(), Refusal>
-    requires { Judged store.old desk (number_of sample) symbol × (recent.now ≡ recent_at store.old desk (sample_of (number_of sample))) × (is_counted store.old desk (sample_of (number_of sample)) ≡ true) }
-    ensures { Moves store.old (at_desk desk (asking (feed (number_of sample) symbol))) (outcome_of result) store.new }
+fn feed_after(store: &mut [u32], feed: Feed, recent: &[u32]) -> Result<(), Refusal>
+    requires { CountedFeed store.old feed × (recent.now ≡ recent_at store.old feed.desk (sample_fed feed)) }
+    ensures { Moves store.old (call_of feed) (outcome_of result) store.new }
 {
-    let sought = seek_in(store, desk, recent);
-    if is_past(store, desk, recent, sought) {
+    let sought = seek_in(store, feed.desk, recent);
+    if is_past(store, feed.desk, recent, sought) {
         return Err(Refusal::PastReservation);
     }
-    write_feed(store, desk, sample, symbol, recent, sought);
+    write_feed(store, feed, recent, sought);
     Ok(())
 }

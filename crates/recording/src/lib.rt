@@ -3,16 +3,24 @@
 
 ghost use Rattle.std.specs.Prelude.{◌≡◌, ◌++◌, ◌+◌, ◌-◌, ◌*◌, ◌%◌, ◌≤◌, ◌<◌, length, take, drop, get_or};
 ghost use Rattle.numbers.specs.Limits.{most_symbols, longest};
-ghost use Rattle.contexts.specs.Sitting.{sample_of};
 ghost use Rattle.records.specs.Records.{width, records, blank};
 ghost use Rattle.records.specs.Samples.{number_of};
 ghost use Rattle.records.specs.Held.{without, Removable};
 ghost use Rattle.records.specs.Bumped.{raised, Cell, Written};
 ghost use Rattle.records.specs.Fed.{fed, fresh};
 ghost use Rattle.records.specs.Located.{Ready, Insertable, Inserted, Appended};
+ghost use Rattle.recording.specs.Feeds.{sample_fed};
 ghost use Rattle.recording.specs.Counted.{raised_each, Raisable, with_missing, Growable};
 
 use records::{COUNTS, DESK_SPAN, Held, NEWEST, Sample, Sought, WIDTH, longer};
+
+// A symbol for a sample of a desk's sitting: what one feed names.
+#[derive(Clone, Copy, Debug, PartialEq, Eq)]
+pub struct Feed {
+    pub desk: u32,
+    pub sample: Sample,
+    pub symbol: u32,
+}
 
 // The contexts that a counted symbol follows and that no record has yet: those from length `found` on. `recent` are the symbols before it, most recent
 // first, and a new record counts the symbol at `cell`.
@@ -41,21 +49,19 @@ pub fn remove_desk(numbers: &mut [u32], n: usize, desk: u32) -> usize
     n - gone
 }
 
-// A symbol that is counted is fed to a sample: each context that it follows gets one more. `recent` are the symbols before it, most recent first,
+// A feed that is counted: each context that it follows gets one more. `recent` are the symbols before it, most recent first,
 // and `sought` says where its contexts stand. Gives the number of records then. New records use up the numbers behind the `n` records.
 pub fn feed_records(
     numbers: &mut [u32],
     n: usize,
-    desk: u32,
-    sample: Sample,
-    symbol: u32,
+    feed: Feed,
     recent: &[u32],
     sought: Sought,
 ) -> usize
-    requires { Ready desk (number_of sample) symbol recent.now n numbers.old sought.found sought.places }
-    ensures { Written (fed desk (sample_of (number_of sample)) symbol recent.now (records n numbers.old)) result numbers.old numbers.new }
+    requires { Ready feed.desk (number_of feed.sample) feed.symbol recent.now n numbers.old sought.found sought.places }
+    ensures { Written (fed feed.desk (sample_fed feed) feed.symbol recent.now (records n numbers.old)) result numbers.old numbers.new }
 {
-    let cell = 1 + (COUNTS * sample.index() + symbol as usize);
+    let cell = 1 + (COUNTS * feed.sample.index() + feed.symbol as usize);
     raise_held(numbers, cell, sought);
     let found = sought.found;
     if recent.len() < found {
@@ -63,7 +69,7 @@ pub fn feed_records(
     }
     let places = sought.places;
     let missing = Missing {
-        desk,
+        desk: feed.desk,
         recent,
         found,
         cell,

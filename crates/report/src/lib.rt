@@ -32,27 +32,63 @@ pub fn report(store: &[u32], desk: u32, sheet: &mut [u32], place: u32) -> Result
     if at.n <= at.depth || at.m <= at.depth {
         return Err(Refusal::SampleShort);
     }
-    report_on(store, at, sheet, place)
+    Reportable { store, desk: at }.report_on(sheet, place)
 }
 
-// The report on an open desk both of whose samples have more symbols than its depth. What logarithms are read from is put here once, and lent to all below.
-fn report_on(store: &[u32], desk: Desk, sheet: &mut [u32], place: u32) -> Result<Reported, Refusal>
-    requires { CanReportOn store.now desk }
-    ensures { Reports store.now desk.number place (written_of result place sheet.new) sheet.old sheet.new }
-{
-    let logs = logarithm::logs();
-    let logs = LentLogs::new(&logs);
-    let mut kept = [0u8; MOST_ROOM];
-    let least = weighed(logs, store, desk, &mut kept);
-    let whole = sheet.len() / ROW_WIDTH;
-    if whole < place as usize + least.rows as usize {
-        return Err(Refusal::SheetShort);
+// An open desk of a sound store, both of whose samples have more symbols than its depth. No value without that can be made.
+#[derive(Clone, Copy)]
+struct Reportable<'a> {
+    store: &'a [u32],
+    desk: Desk,
+    ghost can: { CanReportOn store.now desk },
+}
+
+impl Reportable<'_> {
+    // The report on it. What logarithms are read from is put here once, and lent to all below.
+    fn report_on(&self, sheet: &mut [u32], place: u32) -> Result<Reported, Refusal>
+        ensures { Reports self.now.store.now self.now.desk.number place (written_of result place sheet.new) sheet.old sheet.new }
+    {
+        let logs = logarithm::logs();
+        let logs = LentLogs::new(&logs);
+        let mut kept = [0u8; MOST_ROOM];
+        let least = self.weighed(logs, &mut kept);
+        let whole = sheet.len() / ROW_WIDTH;
+        if whole < place as usize + least.rows as usize {
+            return Err(Refusal::SheetShort);
+        }
+        self.write(logs, &kept, sheet, place);
+        Ok(Reported {
+            rows: least.rows as u32,
+            score: score_of(least.joint),
+        })
     }
-    write(logs, store, desk, &kept, sheet, place);
-    Ok(Reported {
-        rows: least.rows as u32,
-        score: score_of(least.joint),
-    })
+
+    // Weighs the desk's records; the decisions are kept beside them.
+    fn weighed(&self, logs: LentLogs, kept: &mut [u8]) -> Least
+        requires { most_room ≤ length kept.old }
+        ensures { WeighedDesk self.now.store.now self.now.desk.number kept.new result }
+    {
+        let n = self.store[USED] as usize;
+        let numbers = &self.store[HEADER..];
+        weighing::weigh(logs, Held { numbers, n }, self.desk, kept)
+    }
+
+    // Writes the weighed desk's rows from row `place` on.
+    fn write(&self, logs: LentLogs, kept: &[u8], sheet: &mut [u32], place: u32)
+        requires { DecidedDesk self.now.store.now self.now.desk.number kept.now × (place + length (rows.report_of (sitting_at self.now.store.now self.now.desk.number)) ≤ length sheet.old / row_width) }
+        ensures { sheet.new ≡ with_rows place (rows.report_of (sitting_at self.now.store.now self.now.desk.number)) sheet.old }
+    {
+        let n = self.store[USED] as usize;
+        let numbers = &self.store[HEADER..];
+        let start = ROW_WIDTH * place as usize;
+        listing::write_rows(
+            logs,
+            Held { numbers, n },
+            self.desk,
+            kept,
+            &mut sheet[start..],
+        );
+    }
 }
 
 // The score is the loss with a minus sign.
@@ -61,27 +97,6 @@ fn score_of(loss: u64) -> i64
     ensures { result ≡ neg_ℤ (pos loss) }
 {
     -(loss as i64)
-}
-
-// Weighs an open desk's records; the decisions are kept beside them.
-fn weighed(logs: LentLogs, store: &[u32], desk: Desk, kept: &mut [u8]) -> Least
-    requires { CanReportOn store.now desk × (most_room ≤ length kept.old) }
-    ensures { WeighedDesk store.now desk.number kept.new result }
-{
-    let n = store[USED] as usize;
-    let numbers = &store[HEADER..];
-    weighing::weigh(logs, Held { numbers, n }, desk, kept)
-}
-
-// Writes a weighed desk's rows from row `place` on.
-fn write(logs: LentLogs, store: &[u32], desk: Desk, kept: &[u8], sheet: &mut [u32], place: u32)
-    requires { CanReportOn store.now desk × DecidedDesk store.now desk.number kept.now × (place + length (rows.report_of (sitting_at store.now desk.number)) ≤ length sheet.old / row_width) }
-    ensures { sheet.new ≡ with_rows place (rows.report_of (sitting_at store.now desk.number)) sheet.old }
-{
-    let n = store[USED] as usize;
-    let numbers = &store[HEADER..];
-    let start = ROW_WIDTH * place as usize;
-    listing::write_rows(logs, Held { numbers, n }, desk, kept, &mut sheet[start..]);
 }
 
 // A desk's numbers, as a weighing takes them.

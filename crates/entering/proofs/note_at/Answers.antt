@@ -9,12 +9,12 @@ pub note-requires : goal.note-requires
 note-requires c =
     let x = c.args in
     let p = c.requires in
-    let one = one_of_two x.sample in
-    rw (c.index-i.ensures, size_number (number_of x.sample) one, recent_number (number_of x.sample) one) (desk_places x.store.now x.desk (sample_of (number_of x.sample)) p.0 p.1, p.2)
+    let one = one_of_two x.feed.sample in
+    rw (c.index-i.ensures, size_number (number_of x.feed.sample) one, recent_number (number_of x.feed.sample) one) (desk_places x.store.now x.feed.desk (sample_of (number_of x.feed.sample)) p.0 p.1, p.2)
 
 pub returns : goal.returns
 returns c =
     let noted = c.note in
     let x = c.args in
-    let one = one_of_two x.sample in
-    rw (c.index-i.ensures, size_number (number_of x.sample) one, recent_number (number_of x.sample) one) at noted.ensures
+    let one = one_of_two x.feed.sample in
+    rw (c.index-i.ensures, size_number (number_of x.feed.sample) one, recent_number (number_of x.feed.sample) one) at noted.ensures

@@ -12,10 +12,10 @@ bounds-store-1 c = omega (arith, header_long c.args.store.now c.requires.0.sound
 pub note_at-requires : goal.note_at-requires
 note_at-requires c =
     let x = c.args in
-    header_asks x.store.now x.desk (number_of x.sample) x.symbol c.requires.0 (one_of_two x.sample) c.requires.1
+    header_asks x.store.now x.feed.desk (number_of x.feed.sample) x.feed.symbol c.requires.0 (one_of_two x.feed.sample) c.requires.1
 
 pub returns : goal.returns
 returns c =
     let x = c.args in
     let noted = c.note_at in
-    header_written x.store.now x.desk (number_of x.sample) x.symbol c.requires.0 (one_of_two x.sample) c.requires.1 noted.new.store noted.ensures
+    header_written x.store.now x.feed.desk (number_of x.feed.sample) x.feed.symbol c.requires.0 (one_of_two x.feed.sample) c.requires.1 noted.new.store noted.ensures

@@ -11,10 +11,10 @@ feed_counted-requires c =
 pub write_header-requires : goal.write_header-requires
 write_header-requires c =
     let x = c.args in
-    header_asks x.store.now x.desk (number_of x.sample) x.symbol c.requires (sym c.is_counted.ensures ∙ c.if-is_counted.false)
+    header_asks x.store.now x.feed.desk (number_of x.feed.sample) x.feed.symbol c.requires (sym c.is_counted.ensures ∙ c.if-is_counted.false)
 
 pub returns : goal.returns
 returns c =
     let wrote = c.write_header in
     let x = c.args in
-    header_kept x.store.now x.desk (number_of x.sample) x.symbol c.requires (sym c.is_counted.ensures ∙ c.if-is_counted.false) wrote.new.store wrote.ensures
+    header_kept x.store.now x.feed.desk (number_of x.feed.sample) x.feed.symbol c.requires (sym c.is_counted.ensures ∙ c.if-is_counted.false) wrote.new.store wrote.ensures
