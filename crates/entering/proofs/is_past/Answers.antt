@@ -15,11 +15,11 @@ bounds-store-1 c = omega (arith, header_long c.args.store.now c.requires.sound)
 pub overflow_cast-n : goal.overflow_cast-n
 overflow_cast-n c = omega (arith, c.type_inv.store 1)
 
-pub slice_bounds-numbers-count : goal.slice_bounds-numbers-count
-slice_bounds-numbers-count c = omega (arith, header_long c.args.store.now c.requires.sound)
+pub slice_bounds-records-count : goal.slice_bounds-records-count
+slice_bounds-records-count c = omega (arith, header_long c.args.store.now c.requires.sound)
 
-pub slice_bounds-numbers-start : goal.slice_bounds-numbers-start
-slice_bounds-numbers-start c = omega (arith, header_long c.args.store.now c.requires.sound)
+pub slice_bounds-records-start : goal.slice_bounds-records-start
+slice_bounds-records-start c = omega (arith, header_long c.args.store.now c.requires.sound)
 
 pub bounds-places-found : goal.bounds-places-found
 bounds-places-found c =
