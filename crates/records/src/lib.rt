@@ -100,7 +100,13 @@ impl Held<'_> {
     pub fn place_of(self, key: u32) -> usize
         ensures { Placed key self.entry.n result self.entry.numbers.now }
     {
-        self.halve(Bounds { low: 0, high: self.n }, key)
+        self.halve(
+            Bounds {
+                low: 0,
+                high: self.n,
+            },
+            key,
+        )
     }
 
     // The same, sought from a place on that does not come after it: quick where it is near.

@@ -194,7 +194,11 @@ impl Walk<'_> {
         requires { Countable self.now.held.numbers.now at self.now.costs }
         ensures { LossesOf (count_table (record_at at self.now.held.numbers.now)) self.now.costs result }
     {
-        estimate::losses_of(self.logs, records::counts_at(self.held.numbers, at), self.costs)
+        estimate::losses_of(
+            self.logs,
+            records::counts_at(self.held.numbers, at),
+            self.costs,
+        )
     }
 }
 
