@@ -19,13 +19,7 @@ use rows::Kind;
 use weighing::{Choice, Desk, Mark, leaf_mark};
 
 // Writes the rows of a desk's report at the beginning of the sheet, by the decisions that `weigh` kept beside the records.
-pub fn write_rows(
-    logs: LentLogs,
-    held: Held,
-    desk: Desk,
-    kept: &[u8],
-    sheet: &mut [u32],
-)
+pub fn write_rows(logs: LentLogs, held: Held, desk: Desk, kept: &[u8], sheet: &mut [u32])
     requires { CanReport desk held.n held.numbers.now kept.now sheet.old }
     ensures { Listed desk held.entry.n held.entry.numbers.now sheet.old sheet.new }
 {
