@@ -4,9 +4,9 @@ use native.Mathlib.Omega.{arith}
 use mathlib.Core.Path.{◌≡◌, sym, ap, ◌∙◌, subst}
 use mathlib.Core.Bool.{true, cond}
 use mathlib.Core.List.{List}
-use borrow.Author.Tests.{lt-ltb, le-ltb, le-leb, lt-leb, eqb-true}
+use borrow.Author.Tests.{lt-ltb, le-ltb, le-leb, lt-leb}
 use Rattle.numbers.specs.Limits.{desks}
-use Rattle.numbers.proofs.Tests.{left, of_true, is_true}
+use Rattle.numbers.proofs.Tests.{left, of_true}
 use Rattle.contexts.specs.Context.{is_context, decoded}
 use Rattle.contexts.specs.Keys.{key_of}
 use Rattle.contexts.proofs.Strings.{context_more}
@@ -17,13 +17,13 @@ use Rattle.chart.specs.Answer.{chart_in, chart_of}
 use Rattle.replay.specs.Table.{refused, answered, verdict_of}
 use Rattle.replay.specs.Machine.{at_desk, asking, verdict, table_of, table_at, asking_table, own_lines, answer_at}
 use Rattle.replay.specs.Machine as machine
-use Rattle.store.specs.Layout.{field, symbols_at, depth_at, records_in}
+use Rattle.store.specs.Layout.{symbols_at, depth_at, records_in}
 use Rattle.store.specs.Sound.{soundb}
 use Rattle.store.specs.Plain.{Open, ContextAt}
 use Rattle.store.specs.Meaning.{opening_at, progress_at, sitting_at, meaning}
-use Rattle.store.proofs.Fitting.{desk_opened, desk_closed}
+use Rattle.store.proofs.Fitting.{desk_opened}
 use Rattle.rules.specs.Question.{is_code, not_asked, charted}
-use Rattle.rules.specs.Rules.{Ask, charting, point, lines_of, ask_answer, rules}
+use Rattle.rules.specs.Rules.{charting, point, lines_of, ask_answer, rules}
 use Rattle.calls.specs.Promises.{Asks}
 use Rattle.calls.proofs.Keeping.{asks_answered}
 use Rattle.charting.specs.declared.Named.TheVariants.{Key, NoContext}

@@ -1,8 +1,8 @@
 -- Refusals 2 to 9 of a feed, as the code has them. Assumes nothing.
-use mathlib.Core.Path.{◌≡◌, sym, ap, ◌∙◌}
+use mathlib.Core.Path.{◌≡◌, sym, ◌∙◌}
 use mathlib.Core.Bool.{true}
 use mathlib.Core.List.{List}
-use Prim.Native.Nat.{ℕ, ◌+◌, ◌≤◌, ◌<◌}
+use Prim.Native.Nat.{ℕ, ◌≤◌, ◌<◌}
 use native.Mathlib.Omega.{arith}
 use lib.Dec.{eqb→eq}
 use Rattle.numbers.specs.Limits.{longest, desks}
@@ -10,7 +10,7 @@ use Rattle.numbers.proofs.Orders.{eq→eqb}
 use Rattle.contexts.specs.Sitting.{sample_of}
 use Rattle.replay.specs.Table.{refused}
 use Rattle.replay.specs.Machine.{Call, asking, at_desk}
-use Rattle.store.specs.Layout.{opening_numbers, field, size_at}
+use Rattle.store.specs.Layout.{field, size_at}
 use Rattle.store.specs.Sound.{soundb}
 use Rattle.store.specs.Plain.{Open}
 use Rattle.rules.specs.Rules.{feed, rules}
@@ -18,7 +18,6 @@ use Rattle.calls.specs.Promises.{Moves}
 use Rattle.calls.proofs.Keeping.{moves_refused}
 use Rattle.changes.specs.FedStore.{Judged}
 use Rattle.changes.proofs.Judging.{no_such_desk_lem, not_open, no_sample, no_symbol, sample_full}
-use Rattle.changes.proofs.Numbering.{size_number}
 
 pub opened : (s : List ℕ) (d x : ℕ) → d < desks → x ≡ field s d 0 → x ≡ 1 → Open s d
 opened s d x l e q = record { desk = l; opened = eq→eqb (field s d 0) 1 (sym e ∙ q) }

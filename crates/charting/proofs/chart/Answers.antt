@@ -1,19 +1,13 @@
 -- `charting::chart` meets its contract: each return is a way through the table. Assumes nothing.
 use mathlib.Core.Path.{◌≡◌, sym, ◌∙◌}
 use mathlib.Core.Bool.{true}
-use Prim.Native.Nat.{◌≤◌}
 use native.Mathlib.Omega.{arith}
 use borrow.Author.Rules.{rules}
 use borrow.Author.Tests.{not-true, not-false}
 use lib.ListN.{length}
-use Rattle.numbers.proofs.Orders.{eq→eqb}
-use Rattle.store.specs.Layout.{header_size, field, symbols_at}
-use Rattle.store.specs.Sound.{soundb}
-use Rattle.store.specs.Plain.{Open}
+use Rattle.store.specs.Layout.{symbols_at}
 use Rattle.store.proofs.Passing.{header_long}
 use Rattle.store.proofs.Standing.{sound_stands}
-use Rattle.rules.specs.Rules.{charting}
-use Rattle.calls.proofs.Keeping.{asks_unsound}
 use Rattle.charting.specs.Naming.{named}
 use Rattle.charting.proofs.Verdicts.{asks_symbol, asks_length, Asked, asks_code, key_readable, asks_chart}
 use Rattle.charting.proofs.chart.Goals as goal

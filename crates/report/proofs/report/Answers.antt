@@ -1,5 +1,5 @@
 -- `report::report` meets its contract: each return is a way through the table. Assumes nothing.
-use Rattle.std.proofs.Common.{rules, arith, ◌≡◌, sym, ap, ◌∙◌}
+use Rattle.std.proofs.Common.{rules, arith, sym, ap, ◌∙◌}
 use mathlib.Core.Logic.{inl, inr}
 use Rattle.store.proofs.Passing.{header_long}
 use Rattle.weighing.specs.declared.Desk.{Desk}
