@@ -18,7 +18,6 @@ use calls::Refusal;
 use chart::{Chart, chart_of};
 use door::open_desk;
 use records::{DESK_SPAN, Held};
-use soundness::sound;
 use store::layout::{DeskNumbers, HEADER, USED};
 
 // What the samples at a desk say of a symbol in the context of that length and code.

@@ -1,21 +1,18 @@
 -- The recent symbols of a sample, as they are copied. Assumes nothing.
-use mathlib.Core.Path.{◌≡◌, ap, ap₂, ◌∙◌}
+use mathlib.Core.Path.{◌≡◌, ap₂}
 use mathlib.Core.Bool.{true}
 use mathlib.Core.List.{List}
-use Prim.Native.Nat.{ℕ, min, ◌+◌, ◌*◌, ◌≤◌}
+use Prim.Native.Nat.{ℕ, min, ◌≤◌}
 use native.Mathlib.Omega.{arith}
 use borrow.Author.Tests.{leb-true}
-use lib.Dec.{leb}
-use lib.ListN.{length, take, drop}
-use Rattle.numbers.specs.Limits.{deepest}
+use lib.ListN.{length, take}
 use Rattle.contexts.specs.Sitting.{sample_of}
-use Rattle.store.specs.Layout.{desk_start, opening_numbers, field, depth_at, size_at, slots_at}
+use Rattle.store.specs.Layout.{depth_at, size_at, slots_at}
 use Rattle.store.specs.Sound.{soundb}
 use Rattle.store.specs.Plain.{Open}
 use Rattle.store.proofs.Standing.{sound_stands, slots_long}
 use Rattle.store.proofs.Passing.{header_long}
 use Rattle.changes.specs.FedStore.{recent_at, is_counted}
-use Rattle.changes.proofs.Numbering.{size_number, recent_number}
 
 module _ (s : List ℕ) (d k : ℕ) (h : soundb s ≡ true) (o : Open s d) (one : k ≤ 1) where
   -- how many there are, and the six places themselves

@@ -106,7 +106,7 @@ impl<'a> DeskNumbers<'a> {
     }
 
     // One of the desk's 32 numbers.
-    fn number(self, at: usize) -> u32
+    pub fn number(self, at: usize) -> u32
         requires { at < 32 }
         ensures { result ≡ field self.entry.store.now self.entry.desk at }
     {

@@ -1,8 +1,6 @@
 -- `desks::open` meets its contract: one law of Granting for each way through it. Assumes nothing.
 use mathlib.Core.Path.{◌≡◌, sym, ◌∙◌}
 use mathlib.Core.Bool.{true}
-use native.Mathlib.Omega.{arith}
-use lib.Dec.{eqb→eq}
 use borrow.Author.Tests.{not-true, not-false, le-ltb, lt-ltb}
 use borrow.Author.Rules.{rules}
 use Rattle.numbers.specs.Limits.{most_weight}

@@ -1,5 +1,5 @@
 -- `door::open_at` meets its contract: the two lines of the table. Assumes nothing.
-use Rattle.std.proofs.Common.{arith, sym, ◌∙◌}
+use Rattle.std.proofs.Common.{sym, ◌∙◌}
 use Rattle.store.proofs.Passing.{header_long}
 use Rattle.door.proofs.Stopping.{stops_no_desk, stops_shut}
 use Rattle.door.proofs.open_at.Goals as goal

@@ -1,5 +1,4 @@
 -- `feeding::feed_sound` meets its contract: one line of the table after the other. Assumes nothing.
-use Prim.Native.Nat.{◌+◌}
 use mathlib.Core.Path.{◌≡◌}
 use native.Mathlib.Omega.{arith}
 use Rattle.std.proofs.lemmas.Result.{err_from_is_err_and}
@@ -7,8 +6,7 @@ use Rattle.contexts.specs.Sitting.{sample_of}
 use Rattle.store.specs.Layout.{field, size_at}
 use Rattle.store.proofs.Passing.{header_long}
 use Rattle.calls.proofs.Keeping.{moves_stopped}
-use Rattle.records.specs.Samples.{number_of}
-use Rattle.records.proofs.Samples.{one_of_two, few_samples}
+use Rattle.records.proofs.Samples.{few_samples}
 use Rattle.feeding.proofs.Refusing.{refused_sample, refused_symbol, refused_full, judged}
 use Rattle.feeding.proofs.feed_sound.Goals as goal
 
