@@ -83,7 +83,15 @@ pub fn is_past(store: &[u32], desk: u32, recent: &[u32], sought: Sought) -> bool
     let more = recent.len() + 1 - found;
     let n = store[USED] as usize;
     let records = &store[HEADER..];
-    let held = held_by(Held { numbers: records, n }, desk, places[0], places[found]);
+    let held = held_by(
+        Held {
+            numbers: records,
+            n,
+        },
+        desk,
+        places[0],
+        places[found],
+    );
     let numbers = DeskNumbers {
         store,
         desk: desk as usize,
