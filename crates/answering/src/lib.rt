@@ -72,7 +72,8 @@ pub fn input_text(
     sitting_text(&input[..end], store, sheet, buffer)
 }
 
-// Puts the answer to a file at the start of the buffer as text, and answers how many bytes it has.
+// Puts the answer to a file at the start of the buffer as text, and answers how many bytes it has. What may not change: it promises the text of any file, and
+// `input_text` that of a program's input.
 pub fn sitting_text(
     file: &[u8],
     store: &mut [u32; STORE_NUMBERS],

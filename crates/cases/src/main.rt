@@ -44,8 +44,7 @@ fn answer_file(rt: &HostRuntime, name: &[u8]) -> io::Result<()> {
     Ok(())
 }
 
-// The name that an argument has, where there is one. One that is too long is as none at all, which names no file. `env::args` does not serve: at an
-// argument that is no text it fails before the first file is answered.
+// The name that an argument has, where there is one. One that is too long is as none at all, which names no file.
 fn name_at<'a>(rt: &HostRuntime, i: usize, space: &'a mut [u8]) -> Option<&'a [u8]> {
     match rt.arg(i, space) {
         Ok(n) => Some(&space[..n]),
@@ -55,6 +54,7 @@ fn name_at<'a>(rt: &HostRuntime, i: usize, space: &'a mut [u8]) -> Option<&'a [u
 }
 
 fn main(rt: HostRuntime) {
+    // By number: `env::args` does not serve, since at an argument that is no text it fails before the first file is answered.
     for i in 1..usize::MAX {
         let mut space = [0u8; LONGEST_NAME];
         let Some(name) = name_at(&rt, i, &mut space) else {

@@ -66,7 +66,7 @@ fn eights_of(newer: u32) -> u32
     requires { newer < deepest }
     ensures { result ≡ 8 ^ (deepest - newer) }
 {
-    1u32 << (18 - 3 * newer)
+    records::eights_of(newer + 1)
 }
 
 // What the counts under a key say of a symbol.

@@ -2,5 +2,5 @@
 use Rattle.replay.specs.Room.{Opening, naming}
 use Rattle.desks.specs.declared.Named.{Named}
 
-abbrev pub opening_of : Named → Opening
-opening_of named = naming named.alphabet named.depth named.weight named.reservation
+abbrev pub naming_of : Named → Opening
+naming_of named = naming named.alphabet named.depth named.weight named.reservation

@@ -11,7 +11,7 @@ ghost use Rattle.store.specs.Meaning.{meaning};
 ghost use Rattle.calls.specs.Refusals.{outcome_of, room_of};
 ghost use Rattle.calls.specs.Promises.{Moves, Asks};
 ghost use Rattle.changes.specs.Changes.{fresh_desk, Openable, Opened, Closed};
-ghost use Rattle.desks.specs.Named.{opening_of};
+ghost use Rattle.desks.specs.Named.{naming_of};
 
 use calls::Refusal;
 use door::open_desk;
@@ -33,6 +33,7 @@ struct Named {
 }
 
 // Opens a desk for an alphabet, a depth and a weight in quarters, and reserves it room. Both samples are empty.
+// No plainer by the door: its third question is the other way round, that the desk is not open.
 pub fn open(
     store: &mut [u32],
     desk: u32,
@@ -73,8 +74,8 @@ pub fn open(
 
 // Refusal 6 or 7, or the opening: what the other refusals left.
 fn open_reserving(store: &mut [u32], desk: u32, named: Named) -> Result<(), Refusal>
-    requires { Openable store.old desk (opening_of named) }
-    ensures { Moves store.old (at_desk desk (opening (opening_of named))) (outcome_of result) store.new }
+    requires { Openable store.old desk (naming_of named) }
+    ensures { Moves store.old (at_desk desk (opening (naming_of named))) (outcome_of result) store.new }
 {
     if named.reservation == 0 || store[ROOM] < named.reservation {
         return Err(Refusal::BadReservation);
@@ -110,7 +111,7 @@ pub fn room_left(store: &[u32]) -> Result<u32, Refusal>
 // Whether an alphabet or a depth is outside its limits.
 #[tactic(auto, unfolding(replay::specs::Machine::outside_limits))]
 fn outside_limits(named: Named) -> bool
-    ensures { result ≡ outside_limits (opening_of named) }
+    ensures { result ≡ outside_limits (naming_of named) }
 {
     named.alphabet < FEWEST_SYMBOLS || MOST_SYMBOLS < named.alphabet || DEEPEST < named.depth
 }
@@ -123,10 +124,10 @@ fn left_in(store: &[u32]) -> u32
     (store[ROOM] as u64 - reserved(Header { store })) as u32
 }
 
-// Writes the numbers of a desk that opens.
+// Writes the numbers of a desk that opens. What it asks stays a clause: no `DeskNumbers` can be lent of numbers that are written.
 fn set_up(store: &mut [u32], desk: usize, named: Named)
     requires { (header_size ≤ length store.old) × (desk < desks) }
-    ensures { Opened store.old store.new desk (opening_of named) }
+    ensures { Opened store.old store.new desk (naming_of named) }
 {
     let from = FIRST_DESK + DESK_SIZE * desk;
     let to = from + DESK_NUMBERS;
@@ -136,7 +137,7 @@ fn set_up(store: &mut [u32], desk: usize, named: Named)
 // The numbers of a desk that opens, over the whole part.
 fn lay_out(part: &mut [u32], named: Named)
     requires { length part.old ≡ desk_numbers }
-    ensures { part.new ≡ fresh_desk (opening_of named) }
+    ensures { part.new ≡ fresh_desk (naming_of named) }
 {
     part.fill(0);
     part[OPEN] = 1;
@@ -146,7 +147,7 @@ fn lay_out(part: &mut [u32], named: Named)
     part[RESERVE] = named.reservation;
 }
 
-// Takes a desk's records out of a sound store and marks it closed.
+// Takes a desk's records out of a sound store and marks it closed; what it asks stays a clause, as above.
 fn shut(store: &mut [u32], desk: u32)
     requires { (soundb store.old ≡ true) × (desk < desks) }
     ensures { Closed store.old store.new desk }

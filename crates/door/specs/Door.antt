@@ -10,7 +10,7 @@ use Rattle.calls.specs.Refusals.{refusal_number}
 use Rattle.calls.specs.declared.Refusal.{Refusal}
 
 -- the desk of that number is open, in a sound store
-pub record Found (store : List ℕ) (desk at : ℕ) : Type 0 where
+pub record DeskFound (store : List ℕ) (desk at : ℕ) : Type 0 where
   pub number : at ≡ desk
   pub sound : soundb store ≡ true
   pub at_open : Open store desk

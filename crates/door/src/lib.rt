@@ -3,7 +3,7 @@
 
 ghost use Rattle.std.specs.Prelude.{◌≡◌, true, MatchResult};
 ghost use Rattle.store.specs.Sound.{soundb};
-ghost use Rattle.door.specs.Door.{Found, Stops};
+ghost use Rattle.door.specs.Door.{DeskFound, Stops};
 
 use calls::Refusal;
 use numbers::DESKS;
@@ -12,7 +12,7 @@ use store::layout::DeskNumbers;
 
 // The desk of that number, where the store is sound and the desk is there and open.
 pub fn open_desk(store: &[u32], desk: u32) -> Result<usize, Refusal>
-    ensures { MatchResult result (λ at. Found store.now desk at) (λ why. Stops store.now desk why) }
+    ensures { MatchResult result (λ at. DeskFound store.now desk at) (λ why. Stops store.now desk why) }
 {
     if !sound(store) {
         return Err(Refusal::Unsound);
@@ -23,7 +23,7 @@ pub fn open_desk(store: &[u32], desk: u32) -> Result<usize, Refusal>
 // The same at a store that has passed its test.
 pub fn open_at(store: &[u32], desk: u32) -> Result<usize, Refusal>
     requires { soundb store.now ≡ true }
-    ensures { MatchResult result (λ at. Found store.now desk at) (λ why. Stops store.now desk why) }
+    ensures { MatchResult result (λ at. DeskFound store.now desk at) (λ why. Stops store.now desk why) }
 {
     let at = desk as usize;
     if DESKS <= at {

@@ -6,7 +6,7 @@ ghost use Rattle.std.specs.Prelude.{◌≡◌, true, false, ◌+◌, ◌-◌, �
 ghost use Rattle.numbers.specs.Limits.{deepest, longest, desks};
 ghost use Rattle.contexts.specs.Sitting.{sample_of};
 ghost use Rattle.records.specs.Records.{records};
-ghost use Rattle.records.specs.Samples.{number_of};
+ghost use Rattle.records.specs.Samples.{sample_index};
 ghost use Rattle.records.specs.Held.{keep, of_desk};
 ghost use Rattle.records.specs.Fed.{Askable};
 ghost use Rattle.records.specs.Located.{Located, Seeks};
@@ -32,10 +32,11 @@ pub struct Latest {
     pub many: usize,
 }
 
-// Whether the next symbol of a sample is counted: only a place with at least D symbols before it is.
+// Whether the next symbol of a sample is counted: only a place with at least D symbols before it is. This and `recent_of` take a desk and a sample: a `Feed`
+// would be no plainer, since they read no symbol. That the store is sound stays a clause: a type's would hold only until it is written.
 pub fn is_counted(store: &[u32], desk: u32, sample: Sample) -> bool
     requires { (soundb store.now ≡ true) × Open store.now desk }
-    ensures { result ≡ is_counted store.now desk (sample_of (number_of sample)) }
+    ensures { result ≡ is_counted store.now desk (sample_of (sample_index sample)) }
 {
     let numbers = DeskNumbers {
         store,
@@ -49,7 +50,7 @@ pub fn is_counted(store: &[u32], desk: u32, sample: Sample) -> bool
 // Copies the six places of a sample's recent symbols. Where the next symbol is counted, it follows the first D of them.
 pub fn recent_of(store: &[u32], desk: u32, sample: Sample) -> Latest
     requires { (soundb store.now ≡ true) × Open store.now desk }
-    ensures { (result.many ≡ depth_at store.now desk) × (result.symbols ≡ slots_at store.now desk (sample_of (number_of sample))) }
+    ensures { (result.many ≡ depth_at store.now desk) × (result.symbols ≡ slots_at store.now desk (sample_of (sample_index sample))) }
 {
     let numbers = DeskNumbers {
         store,
@@ -110,7 +111,6 @@ fn held_by(held: Held, desk: u32, first: usize, from: usize) -> usize
 }
 
 // Writes an accepted feed that is counted: the records, then the header. `recent` are the symbols before it, most recent first.
-// `is_counted` and `recent_of` take a desk and a sample: a `Feed` would be no plainer there, since they read no symbol.
 pub fn write_feed(store: &mut [u32], feed: Feed, recent: &[u32], sought: Sought)
     requires { Acceptable store.old feed.desk (sample_fed feed) feed.symbol × (recent.now ≡ recent_at store.old feed.desk (sample_fed feed)) × Located feed.desk recent.now (records_in store.old) sought.found sought.places × (is_counted store.old feed.desk (sample_fed feed) ≡ true) }
     ensures { FedStore store.old store.new feed.desk (sample_fed feed) feed.symbol }

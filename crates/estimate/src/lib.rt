@@ -69,7 +69,7 @@ pub fn losses_of(logs: LentLogs, counts: [[u32; 8]; 2], costs: ByKind) -> ByKind
         }
 }
 
-// The counts of both samples together.
+// The counts of both samples together. Document 01 wants counts as a table by value, so what they add up to stays a clause, here and where they are handed on.
 pub fn added(counts: [[u32; 8]; 2]) -> [u32; 8]
     requires { sum_of (row_in counts first) + sum_of (row_in counts second) ≤ most_counted }
     ensures { result ≡ eight (counts_in counts shared) }
@@ -88,7 +88,7 @@ fn cost_of(logs: LentLogs, weight: u32, symbols: u32, n: u32) -> u64
     u64::from(weight) * quarter_of(logs, symbols, n)
 }
 
-// What a context costs for each quarter of the weight.
+// What a context costs for each quarter of the weight. The limits of A and of a length stay clauses: no plainer as types of single numbers that callers have at hand.
 fn quarter_of(logs: LentLogs, symbols: u32, n: u32) -> u64
     requires { (1 ≤ symbols) × (symbols ≤ most_symbols) × (n ≤ most_counted) }
     ensures { (result ≡ quarter symbols n) × (result ≤ most_symbols * top_log) }

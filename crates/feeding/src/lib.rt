@@ -21,7 +21,8 @@ use records::Sample;
 use soundness::sound;
 use store::layout::DeskNumbers;
 
-// One more symbol of a sample at a desk.
+// One more symbol of a sample at a desk. What may not change: `Moves` and `Runs` promise an answer to every number of a sample, and C hands numbers on, so it
+// becomes a `Sample` only where `feed_sound` tests it.
 pub fn feed(store: &mut [u32], desk: u32, sample: u32, symbol: u32) -> Result<(), Refusal>
     ensures { Moves store.old (at_desk desk (asking (feed sample symbol))) (outcome_of result) store.new }
 {
@@ -44,7 +45,7 @@ pub fn feed_all(store: &mut [u32], desk: u32, sample: u32, symbols: &[u8]) -> Fe
     }
 }
 
-// The run at a store that has passed its test.
+// The run at a store that has passed its test. That it has stays a clause, here and below: no plainer as a type's, which would hold only until a feed is written.
 fn feed_run(store: &mut [u32], desk: u32, sample: u32, symbols: &[u8]) -> Fed
     requires { soundb store.old ≡ true }
     ensures { Runs store.old desk sample symbols.now result.accepted (outcome_of result.ending) store.new }

@@ -7,7 +7,7 @@ use Rattle.std.specs.Prelude.{Result, Ok, Err}
 use Rattle.calls.specs.declared.Refusal.TheVariants as call
 use Rattle.sitting_file.specs.declared.Refusal.TheVariants as fault
 use Rattle.printing.specs.declared.Head.{Head}
-use Rattle.judgement.specs.Refusals.{number_of, numbered}
+use Rattle.judgement.specs.Refusals.{refusal_told, numbered}
 use Rattle.judgement.specs.declared.Refusal.{Refusal}
 use Rattle.judgement.specs.declared.Refusal.TheVariants.{File, Call}
 
@@ -20,7 +20,7 @@ refusal_by n =
     (cond (eqb n 13) (File fault.EndsEarly) (cond (eqb n 14) (File fault.NotShortest) (cond (eqb n 15) (File fault.OutsideLimits) (cond (eqb n 16) (File fault.BytesLeft)
     (cond (eqb n 20) (Call call.WeightOutside) (Call call.SampleShort)))))))))))))))))
 
-back : (why : Refusal) → refusal_by (number_of why) ≡ why
+back : (why : Refusal) → refusal_by (refusal_told why) ≡ why
 unfolding refusal_by
 back (File fault.EndsEarly) = refl
 back (File fault.NotShortest) = refl

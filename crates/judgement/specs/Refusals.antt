@@ -7,11 +7,11 @@ use Rattle.judgement.specs.declared.Refusal.{Refusal}
 use Rattle.judgement.specs.declared.Refusal.TheVariants.{File, Call}
 
 -- the documents' number of a refusal: the reader's, or the call's
-abbrev pub number_of : Refusal → ℕ
-number_of (File why) = format.refusal_number why
-number_of (Call why) = refusal_number why
+abbrev pub refusal_told : Refusal → ℕ
+refusal_told (File why) = format.refusal_number why
+refusal_told (Call why) = refusal_number why
 
 -- the code's answer as the judgement tells it, with a refusal's number
 abbrev pub numbered : Result Head Refusal → Result Head ℕ
 numbered (Ok head) = Ok head
-numbered (Err why) = Err (number_of why)
+numbered (Err why) = Err (refusal_told why)

@@ -2,7 +2,7 @@
 #![tactic(auto)]
 
 ghost use Rattle.std.specs.Prelude.{◌≡◌};
-ghost use Rattle.judgement.specs.Refusals.{number_of};
+ghost use Rattle.judgement.specs.Refusals.{refusal_told};
 ghost use Rattle.judgement.specs.declared.Refusal.TheVariants.{File, Call};
 
 // Why the program reports on no file: the reader refuses it, or a call at the store is refused.
@@ -30,7 +30,7 @@ impl From<calls::Refusal> for Refusal {
 
 // A refusal's number in the documents.
 impl From<Refusal> for u32 {
-    ghost from_gives = { λ why number. number ≡ number_of why };
+    ghost from_gives = { λ why number. number ≡ refusal_told why };
 
     fn from(why: Refusal) -> u32 {
         match why {

@@ -18,7 +18,7 @@ use Rattle.weighing.specs.declared.Desk.{Desk}
 use Rattle.listing.specs.declared.Spot.{Spot}
 use Rattle.weighing.specs.Sitting.{sitting_in, Weighable}
 use Rattle.listing.specs.Plans.{wanted}
-use Rattle.listing.specs.Writing.{sheet_for, WroteAt, rows_from, CanWrite, Readable, CanReport, Listed}
+use Rattle.listing.specs.Writing.{sheet_for, WroteAt, rows_from, CanWrite, CanReadMarks, CanReport, Listed}
 use Rattle.contexts.specs.Sitting.{first, second}
 use Rattle.estimate.specs.Trees.{own}
 use Rattle.weighing.specs.Weighs.{Decided}
@@ -48,7 +48,7 @@ module _ (k : Desk) (n : ℕ) (l : List ℕ) (w : Weighable k n l) where
     room = omega (arith, q.room, ap length root_rows);
   }
 
-  pub root_readable : (kept : List ℕ) → Decided k n l kept → (costs : ByKind) → CostsOf k.weight k.symbols k.n k.m costs → Readable n kept costs
+  pub root_readable : (kept : List ℕ) → Decided k n l kept → (costs : ByKind) → CostsOf k.weight k.symbols k.n k.m costs → CanReadMarks n kept costs
   root_readable kept q costs priced =
       let small = costs_small k n l w costs priced in
       record { beside = q.beside; small = record { first = omega (arith, small (own first)); second = omega (arith, small (own second)) } }

@@ -60,7 +60,7 @@ pub record CanWrite (k : Desk) (costs : ByKind) (n : ℕ) (l kept : List ℕ) (t
   pub room : to + length (rows_from k n l s c) ≤ top
 
 -- decisions can be read under every key: there is one beside each record, and where none is held, a leaf that costs this gives it
-pub record Readable (n : ℕ) (kept : List ℕ) (costs : ByKind) : Type 0 where
+pub record CanReadMarks (n : ℕ) (kept : List ℕ) (costs : ByKind) : Type 0 where
   pub beside : n ≤ length kept
   pub small : Small costs
 

@@ -7,9 +7,9 @@ ghost use Rattle.contexts.specs.Keys.{context_of};
 ghost use Rattle.records.specs.Records.{records, lookup};
 ghost use Rattle.records.specs.Held.{count_table};
 ghost use Rattle.rows.specs.Members.{number};
-ghost use Rattle.rows.specs.Kinds.{told};
+ghost use Rattle.rows.specs.Kinds.{kind_told};
 ghost use Rattle.listing.specs.Plans.{goes_on, own_plan, plan_by};
-ghost use Rattle.listing.specs.Writing.{WroteAt, numbers_if, numbers_here, Roomy, rows_from, CanWrite, Readable, WroteNumbers, kept_mark, kept_plan, CanReport, Listed};
+ghost use Rattle.listing.specs.Writing.{WroteAt, numbers_if, numbers_here, Roomy, rows_from, CanWrite, CanReadMarks, WroteNumbers, kept_mark, kept_plan, CanReport, Listed};
 
 use estimate::ByKind;
 use logarithm::LentLogs;
@@ -48,6 +48,7 @@ pub fn write_rows(logs: LentLogs, held: Held, desk: Desk, kept: &[u8], sheet: &m
 }
 
 // Which members are wanted at a context and below it: those of both trees together, or those of the own trees that still go on.
+// No plainer as an enum: it is which of the three are wanted, as `Plan` is which rows stand, and `goes_on` asks for any.
 #[derive(Clone, Copy)]
 pub struct Way {
     pub joint: bool,
@@ -90,7 +91,7 @@ struct Listing<'a> {
     kept: &'a [u8],
     desk: Desk,
     costs: ByKind,
-    ghost readable: { Readable held.n kept.now costs },
+    ghost readable: { CanReadMarks held.n kept.now costs },
 }
 
 impl Listing<'_> {
@@ -176,8 +177,8 @@ fn put_here(sheet: &mut [u32], to: usize, plan: Plan, here: &Here) -> usize
 
 // A row, where it is wanted; the place after it.
 fn put_if(sheet: &mut [u32], to: usize, on: bool, kind: Kind, here: &Here) -> usize
-    requires { Roomy (length sheet.old) to (length (numbers_if on (number (told kind)) here.now.len here.now.code here.now.counts)) here.now.counts }
-    ensures { WroteAt sheet.old sheet.new to (numbers_if on (number (told kind)) here.now.len here.now.code here.now.counts) result }
+    requires { Roomy (length sheet.old) to (length (numbers_if on (number (kind_told kind)) here.now.len here.now.code here.now.counts)) here.now.counts }
+    ensures { WroteAt sheet.old sheet.new to (numbers_if on (number (kind_told kind)) here.now.len here.now.code here.now.counts) result }
 {
     if !on {
         return to;

@@ -13,7 +13,7 @@ pub(crate) enum Told {
     Report(Reported),
 }
 
-// A refusal by its number in the documents.
+// A refusal by its number in the documents: a call's or a making's, of which the line tells no more.
 #[derive(Drop)]
 pub(crate) struct Refused(u32);
 

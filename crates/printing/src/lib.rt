@@ -117,7 +117,7 @@ fn put_number<I: Integer>(buffer: &mut [u8], at: usize, number: I) -> usize
     put_bytes(buffer, at, digits.format(number).as_bytes())
 }
 
-// How far a number is from 0.
+// How far a number is from 0. What may not change: it is named in docs/PROMISES.md.
 pub fn magnitude(z: i64) -> u64
     ensures { result ≡ nat_abs z }
 {

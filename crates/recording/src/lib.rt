@@ -4,7 +4,7 @@
 ghost use Rattle.std.specs.Prelude.{◌≡◌, ◌++◌, ◌+◌, ◌-◌, ◌*◌, ◌%◌, ◌≤◌, ◌<◌, length, take, drop, get_or};
 ghost use Rattle.numbers.specs.Limits.{most_symbols, longest};
 ghost use Rattle.records.specs.Records.{width, records, blank};
-ghost use Rattle.records.specs.Samples.{number_of};
+ghost use Rattle.records.specs.Samples.{sample_index};
 ghost use Rattle.records.specs.Held.{without, Removable};
 ghost use Rattle.records.specs.Bumped.{raised, Cell, Written};
 ghost use Rattle.records.specs.Fed.{fed, fresh};
@@ -32,7 +32,8 @@ struct Missing<'a> {
     cell: usize,
 }
 
-// Takes a desk's records out of the first `n`. Gives the number of records then.
+// Takes a desk's records out of the first `n`. Gives the number of records then. Here and below `numbers` and `n` stay two: no `Held` can be lent of numbers that
+// are written.
 pub fn remove_desk(numbers: &mut [u32], n: usize, desk: u32) -> usize
     requires { Removable desk n numbers.old }
     ensures { Written (without desk (records n numbers.old)) result numbers.old numbers.new }
@@ -58,7 +59,7 @@ pub fn feed_records(
     recent: &[u32],
     sought: Sought,
 ) -> usize
-    requires { Ready feed.desk (number_of feed.sample) feed.symbol recent.now n numbers.old sought.found sought.places }
+    requires { Ready feed.desk (sample_index feed.sample) feed.symbol recent.now n numbers.old sought.found sought.places }
     ensures { Written (fed feed.desk (sample_fed feed) feed.symbol recent.now (records n numbers.old)) result numbers.old numbers.new }
 {
     let cell = 1 + (COUNTS * feed.sample.index() + feed.symbol as usize);

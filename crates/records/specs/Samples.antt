@@ -5,10 +5,10 @@ use Rattle.records.specs.declared.Sample.{Sample}
 use Rattle.records.specs.declared.Sample.TheVariants.{First, Second}
 
 -- a sample's number
-abbrev pub number_of : Sample → ℕ
-number_of First = 0
-number_of Second = 1
+abbrev pub sample_index : Sample → ℕ
+sample_index First = 0
+sample_index Second = 1
 
 -- the sample with this number, or an error with a number that no sample has
 abbrev pub Names : ℕ → Result Sample NoSample → Type 0
-Names number r = MatchResult r (λ s. number_of s ≡ number) (λ e. (e.0 ≡ number) × (1 < number))
+Names number r = MatchResult r (λ s. sample_index s ≡ number) (λ e. (e.0 ≡ number) × (1 < number))

@@ -7,7 +7,7 @@ ghost use Rattle.contexts.specs.Keys.{eights};
 ghost use Rattle.records.specs.Records.{width, records, lookup};
 ghost use Rattle.records.specs.Held.{held, record_at, count_table, Standing, Placed, Bounded, Onward};
 ghost use Rattle.records.specs.Fed.{Askable};
-ghost use Rattle.records.specs.Samples.{number_of, Names};
+ghost use Rattle.records.specs.Samples.{sample_index, Names};
 ghost use Rattle.records.specs.Located.{Seeks, longer_key};
 
 use std::array;
@@ -52,7 +52,7 @@ impl TryFrom<u32> for Sample {
 impl Sample {
     // Its number, by which what is the first's stands before what is the second's.
     pub fn index(self) -> usize
-        ensures { result ≡ number_of self }
+        ensures { result ≡ sample_index self }
     {
         match self {
             Sample::First => 0,
@@ -77,7 +77,7 @@ struct Bounds {
     high: usize,
 }
 
-// The counts of the record at a place.
+// The counts of the record at a place. What may not change: it asks for the numbers alone, which is less than `Held` has.
 pub fn counts_at(numbers: &[u32], at: usize) -> [[u32; 8]; 2]
     requires { width * (at + 1) ≤ length numbers.now }
     ensures { result ≡ count_table (record_at at numbers.now) }

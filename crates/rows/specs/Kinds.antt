@@ -6,7 +6,7 @@ use Rattle.rows.specs.declared.Kind.{Kind}
 use Rattle.rows.specs.declared.Kind.TheVariants.{Shared, First, Second}
 
 -- the kind of a triple's contexts that a kind of rows tells of
-abbrev pub told : Kind → TripleKind
-told Shared = shared
-told First = own first
-told Second = own second
+abbrev pub kind_told : Kind → TripleKind
+kind_told Shared = shared
+kind_told First = own first
+kind_told Second = own second

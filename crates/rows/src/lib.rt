@@ -8,7 +8,7 @@ ghost use Rattle.contexts.specs.Sitting.{first, second, eight, row_in, sum_of};
 ghost use Rattle.estimate.specs.Table.{counts_in};
 ghost use Rattle.rows.specs.Members.{number};
 ghost use Rattle.rows.specs.Rows.{kind_of};
-ghost use Rattle.rows.specs.Kinds.{told};
+ghost use Rattle.rows.specs.Kinds.{kind_told};
 
 use numbers::ROW_WIDTH;
 
@@ -22,7 +22,7 @@ pub enum Kind {
 
 // The number that stands for a kind on a sheet.
 impl From<Kind> for u32 {
-    ghost from_gives = { λ kind result. result ≡ number (told kind) };
+    ghost from_gives = { λ kind result. result ≡ number (kind_told kind) };
 
     fn from(kind: Kind) -> u32 {
         match kind {

@@ -22,7 +22,7 @@ pub struct Lengths {
 pub const MOST_TOLD: u64 = 9223372036854775807;
 
 // Puts the file that is saved of a program's input and the line that tells what was lost at the start of the bytes lent. Of the input, `many` bytes
-// were read, and `beyond` were counted after them.
+// were read, and `beyond` were counted after them. What may not change: `FiltersInput` promises an answer to every `many`, so it is no slice.
 pub fn salvage_input(
     input: &[u8; INPUT_BYTES],
     many: usize,

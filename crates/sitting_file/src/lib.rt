@@ -97,7 +97,8 @@ fn symbols_from(file: &[u8], from: usize, shape: Shape) -> Result<Shape, Refusal
     Ok(shape)
 }
 
-// The number that stands at a place, and the place after it. It has two groups at most.
+// The number that stands at a place, and the place after it. It has two groups at most. The limits and the place stay apart: no plainer as a range, which has a
+// flag of its own, or as a reader that goes on, which each contract would have to follow.
 #[tactic(auto, unfolding(crate::specs::Format::first_group, crate::specs::Format::second_group))]
 fn number_at(file: &[u8], at: usize, low: u32, high: u32) -> Result<(u32, usize), Refusal>
     ensures { result ≡ number_at file.now at low high }

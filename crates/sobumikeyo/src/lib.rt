@@ -1,4 +1,5 @@
-// The library for C: slices and single numbers alone. Each call answers 0 or its refusal's number.
+// The library for C: slices and single numbers alone. Each call answers 0 or its refusal's number. The C interface is why a sample, which samples saw a context
+// and a refusal are numbers here, and why outputs are lent one by one.
 #![tactic(auto)]
 
 ghost use Rattle.std.specs.Prelude.{◌≡◌};

@@ -46,7 +46,8 @@ const MARKS: usize = 9;
 
 // The pass. `p` and `q` have, for each length, the mark of the last record so long in each sample, one place on;
 // `tally` the number of each desk's records.
-// Two names and no array of two: each test below names the mark of the first sample and of the second once, as `step_ok` does.
+// No plainer as an array of two: each test below names the mark of the first sample and of the second once, as `step_ok` does; and `body` and `many` are
+// what `passb` speaks of.
 fn pass(header: Header, body: &[u32], many: usize) -> bool
     requires { (width * many ≤ length body.now) × (many ≤ most_room) }
     ensures { result ≡ passb header.entry.store.now (records many body.now) }
@@ -73,7 +74,8 @@ fn pass(header: Header, body: &[u32], many: usize) -> bool
     desks_ok(header, tally)
 }
 
-// The sum of the eight counts that begin at a place of a record.
+// The sum of the eight counts that begin at a place of a record. The place stays a number, here and below: no plainer as a part of eight, since the layout names
+// the places and each part would be cut off three times.
 fn total(held: &[u32], from: usize) -> u64
     requires { from + most_symbols ≤ length held.now }
     ensures { (result ≡ sum_of (take most_symbols (drop from held.now))) × (result ≤ largest_sum) }
@@ -241,7 +243,7 @@ fn slots_ok(desk: DeskNumbers) -> bool
     all_below(desk.recent(Sample::First), a) && all_below(desk.recent(Sample::Second), a)
 }
 
-// Whether every symbol of a part is below `a`.
+// Whether every symbol of a part is below `a`. No plainer as one with writing's, which reads bytes: each is one call of std's `all`.
 fn all_below(part: &[u32], a: u32) -> bool
     ensures { result ≡ all (of_alphabet a) part.now }
 {

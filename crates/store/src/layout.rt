@@ -2,7 +2,7 @@
 ghost use Rattle.std.specs.Prelude.{◌≡◌, ◌≤◌, ◌<◌, length};
 ghost use Rattle.numbers.specs.Limits.{desks};
 ghost use Rattle.contexts.specs.Sitting.{sample_of};
-ghost use Rattle.records.specs.Samples.{number_of};
+ghost use Rattle.records.specs.Samples.{sample_index};
 ghost use Rattle.store.specs.Layout.{header_size, field, is_open, symbols_at, depth_at, weight_at, reserve_at, size_at, slots_at};
 
 use records::Sample;
@@ -92,14 +92,14 @@ impl<'a> DeskNumbers<'a> {
 
     // How many symbols a sample has.
     pub fn size(self, sample: Sample) -> u32
-        ensures { result ≡ size_at self.entry.store.now self.entry.desk (sample_of (number_of sample)) }
+        ensures { result ≡ size_at self.entry.store.now self.entry.desk (sample_of (sample_index sample)) }
     {
         self.number(SIZE_FIRST + sample.index())
     }
 
     // The places of a sample's recent symbols, those in use and the others.
     pub fn recent(self, sample: Sample) -> &'a [u32]
-        ensures { result.now ≡ slots_at self.entry.store.now self.entry.desk (sample_of (number_of sample)) }
+        ensures { result.now ≡ slots_at self.entry.store.now self.entry.desk (sample_of (sample_index sample)) }
     {
         let first = FIRST_DESK + DESK_SIZE * self.desk + RECENT_FIRST + SLOTS * sample.index();
         &self.store[first..first + SLOTS]

@@ -12,8 +12,8 @@ number_of_choice Separate = 1
 number_of_choice Split = 2
 
 -- 3 more where the first's own tree splits, 6 more where the second's does
-abbrev pub number_of : Mark → ℕ
-number_of m = number_of_choice m.joint + 3 * one m.first + 6 * one m.second
+abbrev pub mark_number : Mark → ℕ
+mark_number m = number_of_choice m.joint + 3 * one m.first + 6 * one m.second
 
 -- a number read back
 abbrev pub choice_in : ℕ → Choice

@@ -8,7 +8,7 @@ ghost use Rattle.contexts.specs.Keys.{context_of};
 ghost use Rattle.estimate.specs.Table.{LossesOf};
 ghost use Rattle.records.specs.Held.{record_at, count_table};
 ghost use Rattle.weighing.specs.Trees.{choice};
-ghost use Rattle.weighing.specs.Marks.{number_of_choice, number_of, choice_in, mark_in};
+ghost use Rattle.weighing.specs.Marks.{number_of_choice, mark_number, choice_in, mark_in};
 ghost use Rattle.weighing.specs.Weighs.{CanWeigh, Weighs};
 ghost use Rattle.weighing.specs.Visit.{Countable, CanVisit, Visited, Small, LeafOf, LeafHere, SplitOf, SplitHere, NoneOf, CanAdd, ChildOf, CanAddUnseen, UnseenOf, leaf_mark, split_mark};
 
@@ -119,7 +119,7 @@ impl From<Choice> for u8 {
 
 // The number that is kept beside a record for a decision ..
 impl From<Mark> for u8 {
-    ghost from_gives = { λ mark result. result ≡ number_of mark };
+    ghost from_gives = { λ mark result. result ≡ mark_number mark };
 
     fn from(mark: Mark) -> u8 {
         u8::from(mark.joint) + 3 * u8::from(mark.first) + 6 * u8::from(mark.second)
@@ -142,6 +142,7 @@ impl From<u8> for Mark {
     }
 }
 
+// Of a decision's number. No `From`, since it reads a part of that number alone.
 fn choice_in(number: u8) -> Choice
     ensures { result ≡ choice_in number }
 {
@@ -202,7 +203,8 @@ impl Walk<'_> {
     }
 }
 
-// The context of the record at a place is a leaf with these losses: its decision is kept there, and the walk goes on behind it.
+// The context of the record at a place is a leaf with these losses: its decision is kept there, and the walk goes on behind it. That losses are `Small` stays a
+// clause, here and below: no plainer as a type's, since a `ByKind` is as often a sum of them, a cost or a number of rows.
 fn leaf_here(kept: &mut [u8], at: usize, own: ByKind) -> Weighed
     requires { (at < length kept.old) × Small own }
     ensures { LeafHere own at kept.old kept.new result }
@@ -311,7 +313,7 @@ fn of_less(x: u64, y: u64, of_x: u64, of_y: u64) -> u64
     if x <= y { of_x } else { of_y }
 }
 
-// The decision at a leaf with these losses, as a number: no own tree splits there.
+// The decision at a leaf with these losses, as a number (what may not change, as at `weigh`): no own tree splits there.
 pub fn leaf_mark(own: ByKind) -> u8
     requires { Small own }
     ensures { result ≡ leaf_mark own }

@@ -1,5 +1,5 @@
 -- `desks::set_up` meets its contract. Assumes nothing.
-use Rattle.desks.specs.Named.{opening_of}
+use Rattle.desks.specs.Named.{naming_of}
 use Rattle.changes.proofs.Laying.{opened_now}
 use Rattle.desks.proofs.set_up.Goals as goal
 
@@ -7,4 +7,4 @@ pub returns : goal.returns
 returns c =
     let x = c.args in
     let laid = c.lay_out in
-    opened_now x.store.now x.desk (opening_of x.named) c.requires.0 c.requires.1 laid.new.part laid.ensures
+    opened_now x.store.now x.desk (naming_of x.named) c.requires.0 c.requires.1 laid.new.part laid.ensures
