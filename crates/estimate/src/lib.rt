@@ -1,5 +1,5 @@
 // What a context costs and loses as one of each kind. A loss is a cost less a fit, and never below 0.
-// `logs` is what `logarithm::logs` gave, lent by the caller.
+// `logs` are logarithms that the caller lends.
 #![tactic(auto)]
 
 ghost use Rattle.std.specs.Prelude.{◌≡◌, ◌+◌, ◌*◌, ◌-◌, ◌≤◌, ◌<◌};

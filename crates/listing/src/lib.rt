@@ -1,5 +1,5 @@
 // The rows of a desk's report, listed from the root to the leaves by the decisions that a weighing kept beside the records.
-// `logs` is what `logarithm::logs` gave, lent by the caller and only handed on to `estimate`.
+// `logs` are logarithms that the caller lends, only handed on to `estimate`.
 #![tactic(auto)]
 
 ghost use Rattle.std.specs.Prelude.{◌≡◌, not, ◌&&◌, ◌≤◌, length};

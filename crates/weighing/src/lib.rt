@@ -1,5 +1,5 @@
 // The weighing of a desk's records, from the leaves to the root: what its trees lose at least, how many rows its report has, and the
-// decisions, kept beside the records. `logs` is what `logarithm::logs` gave, lent by the caller and only handed on to `estimate`.
+// decisions, kept beside the records. `logs` are logarithms that the caller lends, only handed on to `estimate`.
 #![tactic(auto)]
 
 ghost use Rattle.std.specs.Prelude.{◌≡◌, cond, not, ◌+◌, ◌≤◌, ◌<◌, ◌^◌, min, length, leb};
