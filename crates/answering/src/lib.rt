@@ -120,7 +120,7 @@ fn feed_file(file: &[u8], shape: Shape, store: &mut [u32]) -> Result<(), calls::
     feed_both(store, first, second)
 }
 
-// Feeds two samples, one after the other, up to the first feed that is refused.
+// Feeds two samples, one after the other, up to the first feed that is refused. That the store is sound stays a clause: it is written here.
 fn feed_both(store: &mut [u32], first: &[u8], second: &[u8]) -> Result<(), calls::Refusal>
     requires { soundb store.old ≡ true }
     ensures { Feeds (outcome_of result) store.new (fed_both first.now second.now (meaning store.old)) }

@@ -17,6 +17,16 @@ use Rattle.store.specs.Layout.{header_size, store_size, desk_start, room, field,
 use Rattle.store.specs.Meaning.{opening_at}
 use Rattle.changes.specs.Changes.{fresh_desk, Opened}
 
+-- ---- the part: zeros, then the numbers that the opening names
+
+pub laid_out : (l₀ l : List ℕ) (i A D weight r : ℕ) → length l₀ ≡ desk_numbers → desk_numbers ≤ i → i ≤ desk_numbers → l ≡ replicate i 0 ++ drop i l₀
+    → set (set (set (set (set l 0 1) 1 A) 2 D) 3 weight) 4 r ≡ fresh_desk (naming A D weight r)
+laid_out l₀ l i A D weight r long low high e =
+    let all : i ≡ desk_numbers = omega arith in
+    let none : drop desk_numbers l₀ ≡ [] = drop_of_length-le l₀ {i = desk_numbers} (le_of_eq long) in
+    let zeros : l ≡ replicate desk_numbers 0 = e ∙ rw (all, none) in
+    rw zeros
+
 -- ---- the store
 
 -- what is there when desk d's part has come back as ys

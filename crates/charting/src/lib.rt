@@ -43,7 +43,9 @@ pub fn chart(
     Ok(chart_under(store, key, symbol))
 }
 
-// The key of the context at a desk that a length and a code name. The code's digits are the symbols, the lowest the most recent.
+// The key of the context at a desk that a length and a code name. Desk, length and code stay three, as `chart` gets them, and that the desk is below 8 a clause:
+// no plainer as a type, since the key is worked out with no store.
+// The code's digits are the symbols, the lowest the most recent.
 fn key_of(symbols: u32, desk: u32, length: u32, code: u32) -> Option<u32>
     requires { (desk < desks) × (length ≤ deepest) }
     ensures { result ≡ named symbols desk length code }
@@ -61,6 +63,7 @@ fn key_of(symbols: u32, desk: u32, length: u32, code: u32) -> Option<u32>
     if rest == 0 { Some(key) } else { None }
 }
 
+// No plainer without this function: it says the records' power of eight in the words of a code's digits.
 // The power of eight at which a symbol stands in a key that has so many more recent ones: 8^6 for the most recent, and an eighth for each place back.
 fn eights_of(newer: u32) -> u32
     requires { newer < deepest }

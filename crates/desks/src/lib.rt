@@ -108,7 +108,8 @@ pub fn room_left(store: &[u32]) -> Result<u32, Refusal>
     }
 }
 
-// Whether an alphabet or a depth is outside its limits.
+// Whether an alphabet or a depth is outside its limits. No plainer as one with the limits of a file's values and of the soundness test: each is the test that its
+// own promise names.
 #[tactic(auto, unfolding(replay::specs::Machine::outside_limits))]
 fn outside_limits(named: Named) -> bool
     ensures { result ≡ outside_limits (naming_of named) }
@@ -116,11 +117,12 @@ fn outside_limits(named: Named) -> bool
     named.alphabet < FEWEST_SYMBOLS || MOST_SYMBOLS < named.alphabet || DEEPEST < named.depth
 }
 
-// The room of a sound store, less the reservations of its open desks.
+// The room of a sound store, less the reservations of its open desks. That it is sound stays a clause, since an opening goes on to write it.
 fn left_in(store: &[u32]) -> u32
     requires { soundb store.now ≡ true }
     ensures { result ≡ left (meaning store.now) }
 {
+    // A cast: tried by `u64::from`, and the proof of the subtraction did not close.
     (store[ROOM] as u64 - reserved(Header { store })) as u32
 }
 

@@ -61,7 +61,8 @@ pub fn recent_of(store: &[u32], desk: u32, sample: Sample) -> Latest
     Latest { symbols, many }
 }
 
-// Where the contexts of a symbol that follows `recent` stand among the store's records.
+// Where the contexts of a symbol that follows `recent` stand among the store's records. `Held` is made by its literal, here and wherever records are sought: no
+// plainer by a function, whose equations each proof would carry by hand.
 pub fn seek_in(store: &[u32], desk: u32, recent: &[u32]) -> Sought
     requires { (soundb store.now ≡ true) × Askable desk recent.now (used store.now) (drop header_size store.now) }
     ensures { Seeks desk recent.now (records_in store.now) result.found result.places }

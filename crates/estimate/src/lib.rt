@@ -70,6 +70,7 @@ pub fn losses_of(logs: LentLogs, counts: [[u32; 8]; 2], costs: ByKind) -> ByKind
 }
 
 // The counts of both samples together. Document 01 wants counts as a table by value, so what they add up to stays a clause, here and where they are handed on.
+// A `for`: tried by `array::from_fn`, of which two goals about closures did not close.
 pub fn added(counts: [[u32; 8]; 2]) -> [u32; 8]
     requires { sum_of (row_in counts first) + sum_of (row_in counts second) ≤ most_counted }
     ensures { result ≡ eight (counts_in counts shared) }

@@ -83,6 +83,7 @@ fn log_of(n: u32) -> u32
     ensures { result ≡ L n }
 {
     let zeros = u32::leading_zeros(n);
+    // A cast: tried by `u64::from`, and the proof of the loop's beginning did not close.
     let mut lead = (n as u64) << zeros;
     let mut k = 63 - zeros;
     while k < MARK {

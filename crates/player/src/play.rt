@@ -54,6 +54,7 @@ const RUN_SYMBOLS: usize = 4096;
 pub(crate) fn play(rt: &impl Print, text: &[u8], store: &mut [u32]) {
     let mut script = Script::new(text);
     let mut lent = store.len();
+    // No `for`: a call reads its own numbers from the same script.
     while let Some(opcode) = script.next() {
         let Ok(call) = Call::try_from(opcode) else {
             return;
@@ -62,7 +63,8 @@ pub(crate) fn play(rt: &impl Print, text: &[u8], store: &mut [u32]) {
     }
 }
 
-// Plays a call, whose numbers follow in the script. The calls after it lend as many numbers as answered.
+// Plays a call, whose numbers follow in the script. `store` and `lent` stay two: what may not change, since a spoil reaches past what calls lend.
+// The calls after it lend as many numbers as answered.
 fn play_call(
     rt: &impl Print,
     call: Call,

@@ -87,7 +87,8 @@ pub fn counts_at(numbers: &[u32], at: usize) -> [[u32; 8]; 2]
     [first, second]
 }
 
-// The records in use: the first `n` of some numbers, strictly rising in key.
+// The records in use: the first `n` of some numbers, strictly rising in key. No plainer as a slice of whole records: the definitions and the layout of a store
+// speak of numbers and of how many records they begin with.
 #[derive(Clone, Copy)]
 pub struct Held<'a> {
     pub numbers: &'a [u32],
@@ -142,7 +143,8 @@ impl Held<'_> {
         Sought { found: all, places }
     }
 
-    // The counts under a key: zeros where none of the first `n` records has it.
+    // The counts under a key: zeros where none of the first `n` records has it. The test of `stands`, written out: its two facts are wanted here, and what
+    // `stands` promises is the one that follows from them.
     pub fn table_of(self, key: u32) -> [[u32; 8]; 2]
         ensures { result ≡ count_table (lookup key (records self.entry.n self.entry.numbers.now)) }
     {

@@ -17,7 +17,7 @@ use records::{Held, Sample};
 use store::layout::{DeskNumbers, HEADER, USED};
 use weighing::{Desk, Least};
 
-// Writes a desk's report on the sheet, from row `place` on.
+// Writes a desk's report on the sheet, from row `place` on. What may not change: what it is given is named in docs/PROMISES.md.
 pub fn report(store: &[u32], desk: u32, sheet: &mut [u32], place: u32) -> Result<Reported, Refusal>
     ensures { Reports store.now desk place (written_of result place sheet.new) sheet.old sheet.new }
 {

@@ -11,7 +11,7 @@ use printing::{TEXT_BYTES, put_five, put_refusal};
 use salvage::Lost;
 use sitting_file::{INPUT_BYTES, judged_bytes};
 
-// How many bytes the saved file and the line have.
+// How many bytes the saved file and the line have, of the fixed memory that is lent for them (no heap is the project's rule).
 #[derive(Clone, Copy, Debug, PartialEq, Eq)]
 pub struct Lengths {
     pub file: usize,

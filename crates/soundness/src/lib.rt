@@ -190,7 +190,7 @@ fn mark_ok(seen: u64, mark: u32, up: u32) -> bool
     seen == 0 || mark == up
 }
 
-// The mark of a key in a sample that has seen it `seen` times.
+// The mark of a key in a sample that has seen it `seen` times. 0 and no Option where it has not: what may not change (`seen_mark`, `up_mark`, `mark_ok`).
 fn mark(key: u32, seen: u64) -> u32
     requires { key < desks * desk_span }
     ensures { result ≡ seen_mark key seen }
@@ -198,7 +198,8 @@ fn mark(key: u32, seen: u64) -> u32
     if 0 < seen { key + 1 } else { 0 }
 }
 
-// The desks' tests, with the number of each one's records.
+// The desks' tests, with the number of each one's records. Tried by `all` over the desks, here and in `reserved` by `sum`: the proof of what they tell of each
+// desk did not close.
 fn desks_ok(header: Header, tally: [u32; DESKS]) -> bool
     ensures { result ≡ every desks (tally_ok header.entry.store.now tally) }
 {

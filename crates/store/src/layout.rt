@@ -51,7 +51,8 @@ pub struct Header<'a> {
     ghost whole: { header_size ≤ length store.now },
 }
 
-// A desk's numbers in a store that has its header.
+// A desk's numbers in a store that has its header. Made by its literal, as `Header` is: a function that gives one was tried, and each proof above would have
+// carried by hand that the store is the same.
 #[derive(Clone, Copy)]
 pub struct DeskNumbers<'a> {
     pub store: &'a [u32],

@@ -105,7 +105,7 @@ pub fn write(
     Ok(size)
 }
 
-// Whether A, D, the lengths and the symbols are within their limits.
+// Whether A, D, the lengths and the symbols are within their limits. The four values stay apart until they are: a `Sitting` is one whose values are good.
 #[tactic(auto, unfolding(crate::specs::Writing::good_values))]
 fn good_values(first: &[u8], second: &[u8], alphabet: u32, depth: u32) -> bool
     ensures { result ≡ good_values alphabet depth first.now second.now }
