@@ -7,7 +7,8 @@ use sitting_file::INPUT_BYTES;
 use std::io::{Read, Write};
 use streams::{read_full, write_full};
 
-// Answers the sitting file that a reader holds, and says whether all of the text could be written.
+// Answers the sitting file that a reader holds, and says whether all of the text could be written. A yes or no, as `write_full` gives it: no plainer as a Result,
+// of whose error the programs would tell nothing.
 pub fn answer_stream<R: Read, W: Write>(from: &mut R, to: &mut W) -> bool
     ensures { AnswersStream (R.remaining from.old) (R.remaining from.new) (W.contents to.old) (W.contents to.new) result }
 {

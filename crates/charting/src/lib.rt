@@ -20,7 +20,7 @@ use door::open_desk;
 use records::{DESK_SPAN, Held};
 use store::layout::{DeskNumbers, HEADER, USED};
 
-// What the samples at a desk say of a symbol in the context of that length and code.
+// What the samples at a desk say of a symbol in the context of that length and code. What may not change: what it is given is named in docs/PROMISES.md.
 pub fn chart(
     store: &[u32],
     desk: u32,

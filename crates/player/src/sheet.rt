@@ -32,7 +32,8 @@ fn report_on(rt: &impl Print, store: &[u32], desk: u32, sheet: &mut [u32], place
     }
 }
 
-// A line for each row, from a row's place on, as far as the sheet has whole rows. The sheet and where its rows stand stay three: two functions read them once.
+// A line for each row, from a row's place on, as far as the sheet has whole rows. The sheet and where its rows stand stay three, and what a report is
+// given stays as `report` takes it: no plainer, each is read once.
 fn say_rows(rt: &impl Print, sheet: &[u32], place: usize, rows: usize) {
     for row in sheet.chunks_exact(ROW_WIDTH).skip(place).take(rows) {
         rt.println(Row(row)).is_ok();
