@@ -117,7 +117,7 @@ fn outside_limits(named: Named) -> bool
     named.alphabet < FEWEST_SYMBOLS || MOST_SYMBOLS < named.alphabet || DEEPEST < named.depth
 }
 
-// The room of a sound store, less the reservations of its open desks. That it is sound stays a clause, since an opening goes on to write it.
+// The room of a sound store, less the reservations of its open desks. That it is sound stays a clause, since an opening, which asks it too, goes on to write it.
 fn left_in(store: &[u32]) -> u32
     requires { soundb store.now ≡ true }
     ensures { result ≡ left (meaning store.now) }

@@ -20,7 +20,8 @@ pub fn open_desk(store: &[u32], desk: u32) -> Result<usize, Refusal>
     open_at(store, desk)
 }
 
-// The same at a store that has passed its test. That it has stays a clause: no plainer as a type's, since the callers that ask it go on to write the store.
+// The same at a store that has passed its test. That it has stays a clause: no plainer as a type's, since a run of feeds writes the store between two calls
+// and would make the type anew for each.
 pub fn open_at(store: &[u32], desk: u32) -> Result<usize, Refusal>
     requires { soundb store.now ≡ true }
     ensures { MatchResult result (λ at. DeskFound store.now desk at) (λ why. Stops store.now desk why) }

@@ -17,6 +17,7 @@ pub(crate) fn play_report(rt: &impl Print, [desk, length, place]: [u32; 3], stor
     report_on(rt, store, desk, part, place);
 }
 
+// What a report is given stays as `report` takes it.
 fn report_on(rt: &impl Print, store: &[u32], desk: u32, sheet: &mut [u32], place: u32) {
     match report(store, desk, sheet, place) {
         Ok(reported) => {
@@ -32,8 +33,8 @@ fn report_on(rt: &impl Print, store: &[u32], desk: u32, sheet: &mut [u32], place
     }
 }
 
-// A line for each row, from a row's place on, as far as the sheet has whole rows. The sheet and where its rows stand stay three, and what a report is
-// given stays as `report` takes it: no plainer, each is read once.
+// A line for each row, from a row's place on, as far as the sheet has whole rows. The sheet and where its rows stand stay
+// three, here and below: no plainer for three functions of a few lines.
 fn say_rows(rt: &impl Print, sheet: &[u32], place: usize, rows: usize) {
     for row in sheet.chunks_exact(ROW_WIDTH).skip(place).take(rows) {
         rt.println(Row(row)).is_ok();
