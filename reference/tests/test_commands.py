@@ -11,7 +11,7 @@ REPOSITORY = Path(__file__).resolve().parents[2]
 MODULES = ("cases", "compare", "program", "salvage", "script")
 SCRIPTS = [".ci/run", "bench/before", "bench/constants", "bench/crates", "bench/programs", "bench/run", "bench/source_tables"]
 SCRIPTS += ["bindings/readme", "bindings/test", "samples/make"]
-SCRIPTS += ["bindings/python/build", "bindings/python/play.py", "bindings/python/sitting.py", "tools/picture"]
+SCRIPTS += ["bindings/python/build", "bindings/python/play.py", "bindings/python/sitting.py", "tools/forms", "tools/picture"]
 SCRIPTS += ["tools/respell/respell"]
 NAMES = SCRIPTS + [f"python3 -m reference.{module}" for module in MODULES]
 EXAMPLE = bytes.fromhex("020104040001000100000100")
@@ -37,6 +37,7 @@ WRONG = [
     ("python3 -m reference.script", [], b"3 " + b"9" * 5000, "more than 32 bits"),
     ("bench/source_tables", ["--rounds", "0"], b"", "from 1 up"),
     ("bench/source_tables", ["--depth", "7"], b"", "--depth"),
+    ("tools/forms", ["--at", "nowhere"], b"", "nowhere"),
     ("bindings/python/play.py", [], b"9", "no call has the number 9"),
     ("bindings/python/sitting.py", [], EXAMPLE, "no library at /nowhere"),
 ]

@@ -9,19 +9,12 @@ use Rattle.numbers.specs.Limits.{row_width}
 use Rattle.rows.proofs.Written.{rows_read}
 use Rattle.replay.specs.Table.{Outcome, refused, answered}
 use Rattle.rules.specs.Rules.{Answer, done, contexts_left, reported, point}
-use Rattle.calls.specs.Refusals.{refusal_number, outcome_of, room_of, written_of, charted_of, ending_of}
+use Rattle.calls.specs.Refusals.{refusal_number, outcome_of, room_of, written_of, charted_of}
 use Rattle.calls.specs.declared.Refusal.{Refusal}
 use Rattle.calls.specs.declared.Refusal.TheVariants.{Unsound, NoSuchDesk, AlreadyOpen, NotOpen, OutsideLimits, BadReservation, NoRoom, NotOfSitting, SampleFull, PastReservation, SampleEmpty, SheetShort, WeightOutside, SampleShort}
-use Rattle.calls.specs.declared.Verdict.{Verdict}
-use Rattle.calls.specs.declared.Verdict.TheVariants as verdict
-use Rattle.calls.specs.declared.RoomLeft.{RoomLeft}
-use Rattle.calls.specs.declared.RoomLeft.TheVariants as question
-use Rattle.calls.specs.declared.ReportAnswer.{ReportAnswer}
-use Rattle.calls.specs.declared.ReportAnswer.TheVariants as written
-use Rattle.calls.specs.declared.ChartAnswer.{ChartAnswer}
-use Rattle.calls.specs.declared.ChartAnswer.TheVariants as asked
-use Rattle.calls.specs.declared.Ending.{Ending}
-use Rattle.calls.specs.declared.Ending.TheVariants as ending
+use Rattle.calls.specs.declared.Reported.{Reported}
+use Rattle.chart.specs.declared.Chart.{Chart}
+use Rattle.std.specs.Prelude.{Result, Ok, Err}
 
 -- ---- a refusal from its number
 unfoldable refusal_by : ℕ → Refusal
@@ -60,65 +53,56 @@ module _ {B : Type 0} (yes? : Answer → B) (no? : Refusal → B) where
   both : (f : B → Outcome Answer) → ((z : B) → by (f z) ≡ z) → (x y : B) → f x ≡ f y → x ≡ y
   both f h x y e = sym (h x) ∙ ap by e ∙ h y
 
-unfoldable contexts_in : Answer → RoomLeft
-contexts_in done = question.Contexts 0
-contexts_in (contexts_left n) = question.Contexts n
-contexts_in (reported x) = question.Contexts 0
-contexts_in (point x) = question.Contexts 0
+unfoldable contexts_in : Answer → Result ℕ Refusal
+contexts_in done = Ok 0
+contexts_in (contexts_left n) = Ok n
+contexts_in (reported x) = Ok 0
+contexts_in (point x) = Ok 0
 
-unfoldable rows_of : Answer → ReportAnswer
-rows_of done = written.Refused Unsound
-rows_of (contexts_left n) = written.Refused Unsound
-rows_of (reported x) = written.Rows (length x.rows) x.score
-rows_of (point x) = written.Refused Unsound
+unfoldable rows_of : Answer → Result Reported Refusal
+rows_of done = Err Unsound
+rows_of (contexts_left n) = Err Unsound
+rows_of (reported x) = Ok (record { rows = length x.rows; score = x.score })
+rows_of (point x) = Err Unsound
 
-unfoldable chart_in : Answer → ChartAnswer
-chart_in done = asked.Refused Unsound
-chart_in (contexts_left n) = asked.Refused Unsound
-chart_in (reported x) = asked.Refused Unsound
-chart_in (point x) = asked.Answered x
+unfoldable chart_in : Answer → Result Chart Refusal
+chart_in done = Err Unsound
+chart_in (contexts_left n) = Err Unsound
+chart_in (reported x) = Err Unsound
+chart_in (point x) = Ok x
 
--- THEOREM. Two answers with one outcome are one: of an opening, a feed or a closing ..
-pub one_verdict : (x y : Verdict) → outcome_of x ≡ outcome_of y → x ≡ y
+-- THEOREM. Two answers with one outcome are one: of an opening, a feed, a closing or the end of a run ..
+pub one_verdict : (x y : Result (Unit {0}) Refusal) → outcome_of x ≡ outcome_of y → x ≡ y
 unfolding by
-one_verdict = both (λ a. verdict.Done) verdict.Refused outcome_of says
+one_verdict = both (λ a. Ok tt) Err outcome_of says
   where
-    says : (z : Verdict) → by (λ a. verdict.Done) verdict.Refused (outcome_of z) ≡ z
-    says verdict.Done = refl
-    says (verdict.Refused why) = ap verdict.Refused (back why)
-
--- .. of the end of a run ..
-pub one_ending : (x y : Ending) → ending_of x ≡ ending_of y → x ≡ y
-unfolding by
-one_ending = both (λ a. ending.Whole) ending.Refused ending_of says
-  where
-    says : (z : Ending) → by (λ a. ending.Whole) ending.Refused (ending_of z) ≡ z
-    says ending.Whole = refl
-    says (ending.Refused why) = ap ending.Refused (back why)
+    says : (z : Result (Unit {0}) Refusal) → by (λ a. Ok tt) Err (outcome_of z) ≡ z
+    says (Ok u) = refl
+    says (Err why) = ap Err (back why)
 
 -- .. of the room question ..
-pub one_room : (x y : RoomLeft) → room_of x ≡ room_of y → x ≡ y
+pub one_room : (x y : Result ℕ Refusal) → room_of x ≡ room_of y → x ≡ y
 unfolding by contexts_in
-one_room = both contexts_in question.Refused room_of says
+one_room = both contexts_in Err room_of says
   where
-    says : (z : RoomLeft) → by contexts_in question.Refused (room_of z) ≡ z
-    says (question.Contexts n) = refl
-    says (question.Refused why) = ap question.Refused (back why)
+    says : (z : Result ℕ Refusal) → by contexts_in Err (room_of z) ≡ z
+    says (Ok n) = refl
+    says (Err why) = ap Err (back why)
 
 -- .. of a chart question ..
-pub one_chart : (x y : ChartAnswer) → charted_of x ≡ charted_of y → x ≡ y
+pub one_chart : (x y : Result Chart Refusal) → charted_of x ≡ charted_of y → x ≡ y
 unfolding by chart_in
-one_chart = both chart_in asked.Refused charted_of says
+one_chart = both chart_in Err charted_of says
   where
-    says : (z : ChartAnswer) → by chart_in asked.Refused (charted_of z) ≡ z
-    says (asked.Answered chart) = refl
-    says (asked.Refused why) = ap asked.Refused (back why)
+    says : (z : Result Chart Refusal) → by chart_in Err (charted_of z) ≡ z
+    says (Ok chart) = refl
+    says (Err why) = ap Err (back why)
 
 -- .. and of a report, whatever sheets the rows are read from
-pub one_report : (x y : ReportAnswer) (place : ℕ) (sheet sheet' : List ℕ) → written_of x place sheet ≡ written_of y place sheet' → x ≡ y
+pub one_report : (x y : Result Reported Refusal) (place : ℕ) (sheet sheet' : List ℕ) → written_of x place sheet ≡ written_of y place sheet' → x ≡ y
 unfolding by rows_of
-one_report x y place sheet sheet' e = sym (says x sheet) ∙ ap (by rows_of written.Refused) e ∙ says y sheet'
+one_report x y place sheet sheet' e = sym (says x sheet) ∙ ap (by rows_of Err) e ∙ says y sheet'
   where
-    says : (z : ReportAnswer) (l : List ℕ) → by rows_of written.Refused (written_of z place l) ≡ z
-    says (written.Rows n score) l = ap (λ (k : ℕ). written.Rows k score) (sym (rows_read n (drop (row_width * place) l)))
-    says (written.Refused why) l = ap written.Refused (back why)
+    says : (z : Result Reported Refusal) (l : List ℕ) → by rows_of Err (written_of z place l) ≡ z
+    says (Ok r) l = ap {B = Result Reported Refusal} (λ (k : ℕ). Ok (record { rows = k; score = r.score })) (sym (rows_read r.rows (drop (row_width * place) l)))
+    says (Err why) l = ap Err (back why)

@@ -1,21 +1,13 @@
 -- The documents' number of each refusal, and what each answer of the code says in the room's machine. Assumes nothing.
-use Rattle.std.specs.Prelude.{ℕ, ◌*◌, List, drop}
+use Rattle.std.specs.Prelude.{ℕ, ◌*◌, List, drop, Result, Ok, Err}
 use Rattle.replay.specs.Table.{Outcome, refused, answered}
 use Rattle.numbers.specs.Limits.{row_width}
 use Rattle.rows.specs.Rows.{read_rows}
 use Rattle.rules.specs.Rules.{Answer, done, contexts_left, reported, point}
 use Rattle.calls.specs.declared.Refusal.{Refusal}
 use Rattle.calls.specs.declared.Refusal.TheVariants.{Unsound, NoSuchDesk, AlreadyOpen, NotOpen, OutsideLimits, BadReservation, NoRoom, NotOfSitting, SampleFull, PastReservation, SampleEmpty, SheetShort, WeightOutside, SampleShort}
-use Rattle.calls.specs.declared.Verdict.{Verdict}
-use Rattle.calls.specs.declared.Verdict.TheVariants as verdict
-use Rattle.calls.specs.declared.RoomLeft.{RoomLeft}
-use Rattle.calls.specs.declared.RoomLeft.TheVariants as question
-use Rattle.calls.specs.declared.ReportAnswer.{ReportAnswer}
-use Rattle.calls.specs.declared.ReportAnswer.TheVariants as written
-use Rattle.calls.specs.declared.ChartAnswer.{ChartAnswer}
-use Rattle.calls.specs.declared.ChartAnswer.TheVariants as asked
-use Rattle.calls.specs.declared.Ending.{Ending}
-use Rattle.calls.specs.declared.Ending.TheVariants as ending
+use Rattle.calls.specs.declared.Reported.{Reported}
+use Rattle.chart.specs.declared.Chart.{Chart}
 
 abbrev pub refusal_number : Refusal → ℕ
 refusal_number Unsound = 1
@@ -33,26 +25,21 @@ refusal_number SheetShort = 12
 refusal_number WeightOutside = 20
 refusal_number SampleShort = 24
 
--- "answers only that it was done", or the refusal's number alone
-abbrev pub outcome_of : Verdict → Outcome Answer
-outcome_of verdict.Done = answered done
-outcome_of (verdict.Refused why) = refused (refusal_number why)
+-- "answers only that it was done", or the refusal's number alone; of a run of feeds: done with the whole sample, or the refusal that the next feed got
+abbrev pub outcome_of : Result (Unit {0}) Refusal → Outcome Answer
+outcome_of (Ok u) = answered done
+outcome_of (Err why) = refused (refusal_number why)
 
-abbrev pub room_of : RoomLeft → Outcome Answer
-room_of (question.Contexts n) = answered (contexts_left n)
-room_of (question.Refused why) = refused (refusal_number why)
+abbrev pub room_of : Result ℕ Refusal → Outcome Answer
+room_of (Ok n) = answered (contexts_left n)
+room_of (Err why) = refused (refusal_number why)
 
 -- a report's rows are those read from the sheet that it leaves, from row `place` on
-abbrev pub written_of : ReportAnswer → ℕ → List ℕ → Outcome Answer
-written_of (written.Rows n score) place sheet = answered (reported (record { rows = read_rows n (drop (row_width * place) sheet); score = score }))
-written_of (written.Refused why) place sheet = refused (refusal_number why)
+abbrev pub written_of : Result Reported Refusal → ℕ → List ℕ → Outcome Answer
+written_of (Ok r) place sheet = answered (reported (record { rows = read_rows r.rows (drop (row_width * place) sheet); score = r.score }))
+written_of (Err why) place sheet = refused (refusal_number why)
 
 -- "The answer is one of: neither sample saw the context; only the first .."
-abbrev pub charted_of : ChartAnswer → Outcome Answer
-charted_of (asked.Answered chart) = answered (point chart)
-charted_of (asked.Refused why) = refused (refusal_number why)
-
--- the end of a run of feeds: done with the whole sample, or the refusal that the next feed got
-abbrev pub ending_of : Ending → Outcome Answer
-ending_of ending.Whole = answered done
-ending_of (ending.Refused why) = refused (refusal_number why)
+abbrev pub charted_of : Result Chart Refusal → Outcome Answer
+charted_of (Ok chart) = answered (point chart)
+charted_of (Err why) = refused (refusal_number why)

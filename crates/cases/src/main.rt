@@ -1,39 +1,26 @@
 // Prints the program's answer to each file that its arguments name, one after the other.
 #![tactic(auto)]
 
-use printing::TEXT_BYTES;
-use sitting_file::INPUT_BYTES;
+use answering::answer_stream;
 use std::env::{Env, FillError};
 use std::fs::File;
-use std::io::{Error, ErrorKind, Read};
+use std::io::{Error, ErrorKind};
 use std::{io, str};
-use streams::{read_full, write_full};
+use streams::write_full;
 
-// The program over a reader.
-fn answer<R: Read>(rt: &HostRuntime, from: &mut R) {
-    let mut input = [0u8; INPUT_BYTES];
-    let many = read_full(from, &mut input);
-    let mut store = [0u32; 8192];
-    let mut sheet = [0u32; 5632];
-    let mut text = [0u8; TEXT_BYTES];
-    let end = answering::input_text(&input, many, &mut store, &mut sheet, &mut text);
-    write_full(&mut rt.stdout(), &text[..end]);
-}
+// The longest name of a file, in bytes.
+const LONGEST_NAME: usize = 4096;
 
 // A name that is no text names no file here.
 fn open_read(rt: &HostRuntime, name: &[u8]) -> io::Result<File> {
-    match str::from_utf8(name) {
-        Ok(path) => File::open(rt, path),
-        Err(_) => Err(Error::from(ErrorKind::InvalidInput)),
-    }
+    let path = str::from_utf8(name).map_err(|_| Error::from(ErrorKind::InvalidInput))?;
+    File::open(rt, path)
 }
 
 // The system's words for an error, without the number that std puts after them.
 fn words_of(text: &str) -> &str {
-    match text.rsplit_once(" (os error ") {
-        Some((words, _)) => words,
-        None => text,
-    }
+    text.rsplit_once(" (os error ")
+        .map_or(text, |(words, _)| words)
 }
 
 // A line to standard error: the file that was not opened, and why.
@@ -47,35 +34,34 @@ fn fail(rt: &HostRuntime, name: &[u8], error: &Error) {
     write_full(&mut stderr, b"\n");
 }
 
-fn answer_file(rt: &HostRuntime, name: &[u8]) {
-    match open_read(rt, name) {
-        Ok(file) => {
-            let mut file = file;
-            let mut stdout = rt.stdout();
-            write_full(&mut stdout, name);
-            write_full(&mut stdout, b"\n");
-            answer(rt, &mut file);
-        }
-        Err(error) => fail(rt, name, &error),
+// The file's name on a line, and the answer.
+fn answer_file(rt: &HostRuntime, name: &[u8]) -> io::Result<()> {
+    let mut file = open_read(rt, name)?;
+    let mut stdout = rt.stdout();
+    write_full(&mut stdout, name);
+    write_full(&mut stdout, b"\n");
+    answer_stream(&mut file, &mut stdout);
+    Ok(())
+}
+
+// The name that an argument has, where there is one. One that is too long is as none at all, which names no file.
+fn name_at<'a>(rt: &HostRuntime, i: usize, space: &'a mut [u8]) -> Option<&'a [u8]> {
+    match rt.arg(i, space) {
+        Ok(n) => Some(&space[..n]),
+        Err(FillError::TooLong) => Some(&[]),
+        Err(FillError::NotPresent) => None,
     }
 }
 
-// Answers the file that an argument names, and whether there is such an argument.
-fn answer_case(rt: &HostRuntime, i: usize) -> bool {
-    let mut name = [0u8; 4096];
-    let n = match rt.arg(i, &mut name) {
-        Ok(n) => n,
-        Err(FillError::TooLong) => 0,
-        Err(FillError::NotPresent) => return false,
-    };
-    answer_file(rt, &name[..n]);
-    true
-}
-
 fn main(rt: HostRuntime) {
+    // By number: `env::args` does not serve, since at an argument that is no text it fails before the first file is answered.
     for i in 1..usize::MAX {
-        if !answer_case(&rt, i) {
+        let mut space = [0u8; LONGEST_NAME];
+        let Some(name) = name_at(&rt, i, &mut space) else {
             break;
+        };
+        if let Err(error) = answer_file(&rt, name) {
+            fail(&rt, name, &error);
         }
     }
 }

@@ -5,3 +5,4 @@ pub mod Gaps
 pub mod Tables
 pub mod Examples
 pub mod Sayings
+pub mod Totals

@@ -8,7 +8,7 @@ ghost use Rattle.chart.specs.Share.{share};
 ghost use Rattle.chart.specs.Answer.{point_of, answer, chart_in, Chartable};
 
 // The two shares, and the first less the second, rounded once.
-#[derive(Clone, Copy)]
+#[derive(Clone, Copy, Debug, PartialEq)]
 pub struct Point {
     pub first: f64,
     pub second: f64,
@@ -16,15 +16,13 @@ pub struct Point {
 }
 
 // What the samples that saw the context say of the symbol.
-#[derive(Clone, Copy)]
+#[derive(Clone, Copy, Debug, PartialEq)]
 pub enum Chart {
     Neither,
     First(f64),
     Second(f64),
     Both(Point),
 }
-
-const SYMBOLS: usize = 8;
 
 // The answer for a symbol in the context with these counts.
 pub fn chart_of(counts: [[u32; 8]; 2], symbol: u32) -> Chart
@@ -41,16 +39,12 @@ pub fn chart_of(counts: [[u32; 8]; 2], symbol: u32) -> Chart
 fn compared(c1: u32, t1: u32, c2: u32, t2: u32) -> Chart
     ensures { result ≡ answer c1 t1 c2 t2 }
 {
-    if t1 == 0 {
-        if t2 == 0 {
-            return Chart::Neither;
-        }
-        return Chart::Second(share_of(c2, t2));
+    match (t1, t2) {
+        (0, 0) => Chart::Neither,
+        (0, _) => Chart::Second(share_of(c2, t2)),
+        (_, 0) => Chart::First(share_of(c1, t1)),
+        _ => Chart::Both(point_of(share_of(c1, t1), share_of(c2, t2))),
     }
-    if t2 == 0 {
-        return Chart::First(share_of(c1, t1));
-    }
-    Chart::Both(point_of(share_of(c1, t1), share_of(c2, t2)))
 }
 
 fn point_of(first: f64, second: f64) -> Point
@@ -75,11 +69,5 @@ fn total_of(row: [u32; 8]) -> u32
     requires { sum_of row ≤ most_counted }
     ensures { result ≡ sum_of row }
 {
-    let mut total: u32 = 0;
-    let mut a: usize = 0;
-    while a < SYMBOLS {
-        total += row[a];
-        a += 1;
-    }
-    total
+    row.iter().sum()
 }

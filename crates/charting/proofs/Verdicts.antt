@@ -4,9 +4,9 @@ use native.Mathlib.Omega.{arith}
 use mathlib.Core.Path.{◌≡◌, sym, ap, ◌∙◌, subst}
 use mathlib.Core.Bool.{true, cond}
 use mathlib.Core.List.{List}
-use borrow.Author.Tests.{lt-ltb, le-ltb, le-leb, lt-leb, eqb-true}
+use borrow.Author.Tests.{lt-ltb, le-ltb, le-leb, lt-leb}
 use Rattle.numbers.specs.Limits.{desks}
-use Rattle.numbers.proofs.Tests.{left, of_true, is_true}
+use Rattle.numbers.proofs.Tests.{left, of_true}
 use Rattle.contexts.specs.Context.{is_context, decoded}
 use Rattle.contexts.specs.Keys.{key_of}
 use Rattle.contexts.proofs.Strings.{context_more}
@@ -17,34 +17,22 @@ use Rattle.chart.specs.Answer.{chart_in, chart_of}
 use Rattle.replay.specs.Table.{refused, answered, verdict_of}
 use Rattle.replay.specs.Machine.{at_desk, asking, verdict, table_of, table_at, asking_table, own_lines, answer_at}
 use Rattle.replay.specs.Machine as machine
-use Rattle.store.specs.Layout.{field, symbols_at, depth_at, records_in}
+use Rattle.store.specs.Layout.{symbols_at, depth_at, records_in}
 use Rattle.store.specs.Sound.{soundb}
 use Rattle.store.specs.Plain.{Open, ContextAt}
 use Rattle.store.specs.Meaning.{opening_at, progress_at, sitting_at, meaning}
-use Rattle.store.proofs.Fitting.{desk_opened, desk_closed}
+use Rattle.store.proofs.Fitting.{desk_opened}
 use Rattle.rules.specs.Question.{is_code, not_asked, charted}
-use Rattle.rules.specs.Rules.{Ask, charting, point, lines_of, ask_answer, rules}
+use Rattle.rules.specs.Rules.{charting, point, lines_of, ask_answer, rules}
 use Rattle.calls.specs.Promises.{Asks}
 use Rattle.calls.proofs.Keeping.{asks_answered}
-use Rattle.charting.specs.declared.Named.TheVariants.{Key, NoContext}
+use Rattle.std.specs.Prelude.{Some, None}
 use Rattle.charting.specs.Naming.{named}
 use Rattle.charting.specs.Reading.{Readable}
 use Rattle.charting.proofs.CodeWalk.{named_key, named_none}
 use Rattle.charting.proofs.Joining.{chart_read, readable}
 
 module _ (s : List ℕ) (e : soundb s ≡ true) (d : ℕ) where
-  -- ---- any ask, refused by its desk
-
-  pub asks_no_desk : (q : Ask) → desks ≤ d → Asks s (at_desk d (asking q)) (refused 2)
-  unfolding verdict table_of table_at asking_table verdict_of
-  asks_no_desk q h = asks_answered s (at_desk d (asking q)) (refused 2) e (rw (le-leb desks d h))
-
-  pub asks_shut : (q : Ask) → d < desks → (field s d 0 ≡ 1 → ⊥) → Asks s (at_desk d (asking q)) (refused 4)
-  unfolding verdict table_of table_at asking_table verdict_of meaning
-  asks_shut q h n =
-      let shut : Open s d → ⊥ = λ o. n (eqb-true (field s d 0) 1 (is_true _ o.opened)) in
-      asks_answered s (at_desk d (asking q)) (refused 4) e (rw (lt-leb desks d h, desk_closed s d shut))
-
   -- ---- a chart question at an open desk
 
   module _ (o : Open s d) (len code a : ℕ) where
@@ -71,12 +59,12 @@ pub record Asked (s : List ℕ) (d len a : ℕ) : Type 0 where
   pub short : len ≤ depth_at s d
 
 module _ (s : List ℕ) (d len code a : ℕ) (g : Asked s d len a) where
-  pub asks_code : named (symbols_at s d) d len code ≡ NoContext → Asks s (at_desk d (asking (charting len code a))) (refused 8)
+  pub asks_code : named (symbols_at s d) d len code ≡ None → Asks s (at_desk d (asking (charting len code a))) (refused 8)
   asks_code n =
       not_of_sitting_lem s g.sound d g.at_open len code a
       (rw (lt-leb (symbols_at s d) a g.symbol, le-ltb (depth_at s d) len g.short, named_none (symbols_at s d) d len code n))
 
-  module _ (k : ℕ) (n : named (symbols_at s d) d len code ≡ Key k) where
+  module _ (k : ℕ) (n : named (symbols_at s d) d len code ≡ Some k) where
     under : key_of d (decoded len code) ≡ k
     under = (named_key (symbols_at s d) d len code k n).1
 

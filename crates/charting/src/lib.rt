@@ -14,76 +14,62 @@ ghost use Rattle.calls.specs.Refusals.{charted_of};
 ghost use Rattle.charting.specs.Naming.{named};
 ghost use Rattle.charting.specs.Reading.{Readable};
 
-use calls::{ChartAnswer, Refusal};
+use calls::Refusal;
 use chart::{Chart, chart_of};
-use numbers::DESKS;
-use records::{DESK_SPAN, table_of};
-use soundness::sound;
-use store::layout::{DEPTH, HEADER, OPEN, SYMBOLS, USED, field_at};
+use door::open_desk;
+use records::{DESK_SPAN, Held};
+use store::layout::{DeskNumbers, HEADER, USED};
 
-// What a length and a code name: the key of a desk's context, or no context over its alphabet.
-#[derive(Clone, Copy)]
-enum Named {
-    Key(u32),
-    NoContext,
-}
-
-// What the samples at a desk say of a symbol in the context of that length and code.
-pub fn chart(store: &[u32], desk: u32, length: u32, code: u32, symbol: u32) -> ChartAnswer
+// What the samples at a desk say of a symbol in the context of that length and code. What may not change: what it is given is named in docs/PROMISES.md.
+pub fn chart(
+    store: &[u32],
+    desk: u32,
+    length: u32,
+    code: u32,
+    symbol: u32,
+) -> Result<Chart, Refusal>
     ensures { Asks store.now (at_desk desk (asking (charting length code symbol))) (charted_of result) }
 {
-    if !sound(store) {
-        return ChartAnswer::Refused(Refusal::Unsound);
+    open_desk(store, desk)?;
+    let numbers = DeskNumbers {
+        store,
+        desk: desk as usize,
+    };
+    let symbols = numbers.symbols();
+    if symbols <= symbol || numbers.depth() < length {
+        return Err(Refusal::NotOfSitting);
     }
-    let at = desk as usize;
-    if DESKS <= at {
-        return ChartAnswer::Refused(Refusal::NoSuchDesk);
-    }
-    if field_at(store, at, OPEN) != 1 {
-        return ChartAnswer::Refused(Refusal::NotOpen);
-    }
-    let symbols = field_at(store, at, SYMBOLS);
-    if symbols <= symbol {
-        return ChartAnswer::Refused(Refusal::NotOfSitting);
-    }
-    if field_at(store, at, DEPTH) < length {
-        return ChartAnswer::Refused(Refusal::NotOfSitting);
-    }
-    match key_of(symbols, desk, length, code) {
-        Named::Key(key) => ChartAnswer::Answered(chart_under(store, key, symbol)),
-        Named::NoContext => ChartAnswer::Refused(Refusal::NotOfSitting),
-    }
+    let key = key_of(symbols, desk, length, code).ok_or(Refusal::NotOfSitting)?;
+    Ok(chart_under(store, key, symbol))
 }
 
-// The key of the context at a desk that a length and a code name. The code's digits are the symbols, the lowest the most recent.
-fn key_of(symbols: u32, desk: u32, length: u32, code: u32) -> Named
+// The key of the context at a desk that a length and a code name. Desk, length and code stay three, as `chart` gets them, and that the desk is below 8 a clause:
+// no plainer as a type, since the key is worked out with no store.
+// The code's digits are the symbols, the lowest the most recent.
+fn key_of(symbols: u32, desk: u32, length: u32, code: u32) -> Option<u32>
     requires { (desk < desks) × (length ≤ deepest) }
     ensures { result ≡ named symbols desk length code }
 {
     let mut key = desk * DESK_SPAN;
     let mut rest = code;
-    let mut left = length;
-    while 0 < left {
+    for newer in 0..length {
         let digit = rest % 8;
         if symbols <= digit {
-            return Named::NoContext;
+            return None;
         }
-        key = key + (digit * eights_of(length - left) + 1);
-        rest = rest / 8;
-        left = left - 1;
+        key += digit * eights_of(newer) + 1;
+        rest /= 8;
     }
-    if rest == 0 {
-        return Named::Key(key);
-    }
-    Named::NoContext
+    if rest == 0 { Some(key) } else { None }
 }
 
+// No plainer without this function: it says the records' power of eight in the words of a code's digits.
 // The power of eight at which a symbol stands in a key that has so many more recent ones: 8^6 for the most recent, and an eighth for each place back.
 fn eights_of(newer: u32) -> u32
     requires { newer < deepest }
     ensures { result ≡ 8 ^ (deepest - newer) }
 {
-    1u32 << (18 - 3 * newer)
+    records::eights_of(newer + 1)
 }
 
 // What the counts under a key say of a symbol.
@@ -91,7 +77,8 @@ fn chart_under(store: &[u32], key: u32, symbol: u32) -> Chart
     requires { Readable store.now key symbol }
     ensures { result ≡ chart_in (count_table (lookup key (records_in store.now))) symbol }
 {
-    let many = store[USED] as usize;
-    let body = &store[HEADER..];
-    chart_of(table_of(body, many, key), symbol)
+    let n = store[USED] as usize;
+    let numbers = &store[HEADER..];
+    let held = Held { numbers, n };
+    chart_of(held.table_of(key), symbol)
 }

@@ -12,8 +12,9 @@ use Rattle.salvage.specs.Salvage.{Saved, salvage_lines, Salvages}
 use Rattle.salvage.proofs.Refusing.{by_lines, as_the_reader}
 use Rattle.sitting_file.specs.Format.{header_of}
 use Rattle.store.specs.Making.{room_outside, store_short, made_of, Makes}
-use Rattle.store.specs.declared.Made.{Made}
-use Rattle.store.specs.declared.Made.TheVariants.{Done, RoomOutside, StoreShort}
+use Rattle.std.specs.Prelude.{Result, Ok, Err}
+use Rattle.store.specs.declared.Refusal as maker
+use Rattle.store.specs.declared.Refusal.TheVariants as making
 use Rattle.store.specs.Sound.{soundb}
 use Rattle.store.specs.Meaning.{meaning}
 use Rattle.rules.specs.Rules.{Answer, done, feed, reporting, charting, rules}
@@ -66,12 +67,12 @@ making_by_table : (K n : ℕ) → making_of (made_of K n) ≡ verdict_of (making
 unfolding verdict_of
 making_by_table K n = go (room_outside K) (store_short K n)
   where
-    go : (t u : Bool) → making_of (cond t RoomOutside (cond u StoreShort Done)) ≡ cond t (refused 17) (cond u (refused 18) (answered done))
+    go : (t u : Bool) → making_of (cond t (Err making.RoomOutside) (cond u (Err making.StoreShort) (Ok tt))) ≡ cond t (refused 17) (cond u (refused 18) (answered done))
     go true u = refl
     go false true = refl
     go false false = refl
 
-pub demand_1_making : (K : ℕ) (σ τ : List ℕ) (m : Made) → Makes K σ m τ → Demand1Making K σ m τ
+pub demand_1_making : (K : ℕ) (σ τ : List ℕ) (m : Result (Unit {0}) maker.Refusal) → Makes K σ m τ → Demand1Making K σ m τ
 demand_1_making K σ τ m makes =
     let e : making_of m ≡ verdict_of (making_table K (length σ)) done = ap making_of makes.answered ∙ making_by_table K (length σ) in
     record {

@@ -19,7 +19,7 @@ use Rattle.rules.specs.Strings.{sitting_for}
 use Rattle.printing.specs.declared.Head.{Head}
 use Rattle.sitting_file.specs.Format.{read_of}
 use Rattle.sitting_file.specs.declared.Shape.{Shape}
-use Rattle.sitting_file.specs.declared.Reading.TheVariants.{Accepted}
+use Rattle.std.specs.Prelude.{Ok}
 use Rattle.sitting_file.proofs.AcceptedFile.{accepted_holds}
 use Rattle.judgement.specs.Judgement.{room_made, opening_of, strings_in, file_sitting, past_room, empty_sample, short_sample, file_lines}
 use Rattle.judgement.proofs.Exactly.{refuses_exactly}
@@ -53,7 +53,7 @@ size_in : Shape → Sample → ℕ
 size_in shape first = shape.first
 size_in shape second = shape.second
 
-size_is : (file : List ℕ) (shape : Shape) (i : Sample) → read_of file ≡ Accepted shape → length (sample_in file shape i) ≡ size_in shape i
+size_is : (file : List ℕ) (shape : Shape) (i : Sample) → read_of file ≡ Ok shape → length (sample_in file shape i) ≡ size_in shape i
 unfolding size_in
 size_is file shape first e = (accepted_holds file shape e).first_count
 size_is file shape second e = (accepted_holds file shape e).second_count

@@ -23,7 +23,7 @@ use Rattle.calls.specs.Promises.{Reports, with_rows}
 use Rattle.calls.specs.Refusals.{refusal_number}
 use Rattle.calls.specs.declared.Refusal.{Refusal}
 use Rattle.calls.specs.declared.Refusal.TheVariants.{Unsound, NoSuchDesk, NotOpen, SampleEmpty, SheetShort, SampleShort}
-use Rattle.calls.specs.declared.ReportAnswer.TheVariants.{Rows, Refused}
+use Rattle.std.specs.Prelude.{Ok, Err}
 use Rattle.calls.proofs.Reporting as table
 use Rattle.demands.specs.Runs.{CanDo}
 
@@ -38,7 +38,7 @@ module _ (σ : List ℕ) (d sheet place : ℕ) where
   told why r = record {
     outcome = refused (refusal_number why);
     after = σ;
-    does = record { before = blank; after = blank; named = long; answer = Refused why; read = refl; reports = r; only_read = refl };
+    does = record { before = blank; after = blank; named = long; answer = Err why; read = refl; reports = r; only_read = refl };
     words = λ w. w;
   }
 
@@ -63,7 +63,7 @@ module _ (σ : List ℕ) (d sheet place : ℕ) where
               before = blank;
               after = after;
               named = long;
-              answer = Rows (length (report_of x)) (report x).score;
+              answer = Ok (record { rows = length (report_of x); score = (report x).score });
               read = ap (λ (rs : List Row). answered (reported (record { rows = rs; score = (report x).score }))) (sym back);
               reports = table.reports_rows σ d place blank (report x) after h (table.rows_told (meaning σ) d (length blank) place o p near e n m fits) refl;
               only_read = refl;

@@ -18,8 +18,9 @@ use Rattle.writing.specs.Writing.{file_of, writing_lines}
 use Rattle.salvage.specs.Salvage.{Saved, salvage_lines}
 use Rattle.salvage.specs.Saving.{RefusedAsRead}
 use Rattle.store.specs.Making.{room_outside, store_short}
-use Rattle.store.specs.declared.Made.{Made}
-use Rattle.store.specs.declared.Made.TheVariants.{Done, RoomOutside, StoreShort}
+use Rattle.std.specs.Prelude.{Result, Ok, Err}
+use Rattle.store.specs.declared.Refusal as maker
+use Rattle.store.specs.declared.Refusal.TheVariants as making
 use Rattle.store.specs.Sound.{soundb}
 use Rattle.store.specs.Meaning.{meaning}
 use Rattle.rules.specs.Feed.{counted_from}
@@ -31,7 +32,7 @@ use Rattle.sitting_file.specs.Format.{header_of}
 use Rattle.sitting_file.specs.Samples.{Below}
 use Rattle.sitting_file.specs.declared.Refusal as file
 use Rattle.sitting_file.specs.declared.Shape.{Shape}
-use Rattle.sitting_file.specs.declared.Heading.TheVariants.{Whole, Faulty}
+use Rattle.std.specs.Prelude.{Ok, Err}
 use Rattle.demands.specs.Runs.{OnSheet, Does, MadeNew, Run}
 
 -- ---- DEMAND 1: "refuses by number under the stated conditions and no others. A refused call changes neither the store nor the sheet."
@@ -57,13 +58,13 @@ abbrev pub making_table : ℕ → ℕ → List Line
 making_table K n = 17 when room_outside K ∷ 18 when store_short K n ∷ []
 
 -- the answer of a making as an outcome
-abbrev pub making_of : Made → Outcome Answer
-making_of Done = answered done
-making_of RoomOutside = refused 17
-making_of StoreShort = refused 18
+abbrev pub making_of : Result (Unit {0}) maker.Refusal → Outcome Answer
+making_of (Ok u) = answered done
+making_of (Err making.RoomOutside) = refused 17
+making_of (Err making.StoreShort) = refused 18
 
 -- a making of room K with the numbers σ that answers m and leaves τ
-pub record Demand1Making (K : ℕ) (σ : List ℕ) (m : Made) (τ : List ℕ) : Type 0 where
+pub record Demand1Making (K : ℕ) (σ : List ℕ) (m : Result (Unit {0}) maker.Refusal) (τ : List ℕ) : Type 0 where
   pub refused_exactly : (n : ℕ) → (making_of m ≡ refused n) ↔ First (making_table K (length σ)) n
   pub made_exactly : (making_of m ≡ answered done) ↔ NoneApplies (making_table K (length σ))
   pub in_order : numbers_in (making_table K (length σ)) ≡ making_order
@@ -80,9 +81,9 @@ pub record Demand1Writing (A D : ℕ) (xs ys before : List ℕ) (o : Outcome ℕ
 pub record Demand1Salvage (damaged before : List ℕ) (o : Outcome Saved) (after : List ℕ) : Type 0 where
   pub refused_exactly : (n : ℕ) → (o ≡ refused n) ↔ First (salvage_lines (header_of damaged) damaged (length before)) n
   pub saved_exactly : ((s : Saved) × (o ≡ answered s)) ↔ NoneApplies (salvage_lines (header_of damaged) damaged (length before))
-  pub in_order : (shape : Shape) (at : ℕ) → header_of damaged ≡ Whole shape at → numbers_in (salvage_lines (header_of damaged) damaged (length before)) ≡ salvage_order
+  pub in_order : (shape : Shape) (at : ℕ) → header_of damaged ≡ Ok (shape, at) → numbers_in (salvage_lines (header_of damaged) damaged (length before)) ≡ salvage_order
   -- a faulty header has the reader's number, never 16
-  pub as_the_reader : (why : file.Refusal) → header_of damaged ≡ Faulty why → RefusedAsRead damaged why o
+  pub as_the_reader : (why : file.Refusal) → header_of damaged ≡ Err why → RefusedAsRead damaged why o
   pub refused_stays : (n : ℕ) → o ≡ refused n → after ≡ before
 
 -- ---- DEMAND 2: "A report is the joint context tree estimate .."

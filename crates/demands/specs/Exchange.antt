@@ -20,10 +20,8 @@ use Rattle.printing.specs.declared.Head.{Head}
 use Rattle.sitting_file.specs.Format.{read_of}
 use Rattle.sitting_file.specs.Samples.{Below}
 use Rattle.sitting_file.specs.declared.Shape.{Shape}
-use Rattle.sitting_file.specs.declared.Reading.TheVariants.{Accepted}
 use Rattle.judgement.specs.Answers.{Answers}
-use Rattle.judgement.specs.declared.SittingAnswer.{SittingAnswer}
-use Rattle.judgement.specs.declared.SittingAnswer.TheVariants as answer
+use Rattle.std.specs.Prelude.{Result, Ok, Err}
 use Rattle.demands.specs.Demands.{JointEstimate, ItsStrings}
 use Rattle.demands.specs.Program.{sample_in, OfItsFile}
 use Rattle.demands.specs.Runs.{Does, MadeNew, Run}
@@ -187,8 +185,8 @@ ReportsAlike =
 
 -- the second file's samples come from the first's; A and D are the same
 pub record FilesAlike (file file' : List ℕ) (shape shape' : Shape) (way : Way shape.alphabet) : Type 0 where
-  pub accepted : read_of file ≡ Accepted shape
-  pub accepted' : read_of file' ≡ Accepted shape'
+  pub accepted : read_of file ≡ Ok shape
+  pub accepted' : read_of file' ≡ Ok shape'
   pub alphabet : shape'.alphabet ≡ shape.alphabet
   pub depth : shape'.depth ≡ shape.depth
   pub samples : (i : Sample) → sample_in file' shape' i ≡ strings_by way (sample_in file shape) i
@@ -217,5 +215,5 @@ OfProgram =
 abbrev pub FilesRefusedAlike : Type 0
 FilesRefusedAlike =
     (file file' : List ℕ) (shape shape' : Shape) (way : Way shape.alphabet) → FilesAlike file file' shape shape' way
-    → (store sheet store₁ sheet₁ store' sheet' store₁' sheet₁' : List ℕ) (x y : SittingAnswer) → length sheet' ≡ length sheet
-    → Answers file store sheet x store₁ sheet₁ → Answers file' store' sheet' y store₁' sheet₁' → (n : ℕ) → (y ≡ answer.Refused n) ↔ (x ≡ answer.Refused n)
+    → (store sheet store₁ sheet₁ store' sheet' store₁' sheet₁' : List ℕ) (x y : Result Head ℕ) → length sheet' ≡ length sheet
+    → Answers file store sheet x store₁ sheet₁ → Answers file' store' sheet' y store₁' sheet₁' → (n : ℕ) → (y ≡ Err n) ↔ (x ≡ Err n)

@@ -10,10 +10,9 @@ use Rattle.printing.specs.declared.Head.{Head}
 use Rattle.sitting_file.specs.Format.{read_of}
 use Rattle.sitting_file.specs.Samples.{Below, first_of, second_of}
 use Rattle.sitting_file.specs.declared.Shape.{Shape}
-use Rattle.sitting_file.specs.declared.Reading.TheVariants.{Accepted}
 use Rattle.judgement.specs.Judgement.{opening_of, file_sitting}
 use Rattle.judgement.specs.Answers.{headed, Answers}
-use Rattle.judgement.specs.declared.SittingAnswer.TheVariants as answer
+use Rattle.std.specs.Prelude.{Ok}
 use Rattle.demands.specs.Demands.{JointEstimate}
 
 -- a sample of the file as it stands there, oldest symbol first
@@ -24,7 +23,7 @@ sample_in file shape second = second_of file shape
 -- the answer with this head, which left the sheet so, is the joint estimate of the file's samples
 pub record OfItsFile (file sheet : List ℕ) (head : Head) (sheet' : List ℕ) : Type 0 where
   pub shape : Shape
-  pub accepted : read_of file ≡ Accepted shape
+  pub accepted : read_of file ≡ Ok shape
   pub report : Reported
   pub estimate : JointEstimate (file_sitting file shape) report
   pub head_is : head ≡ headed shape (length report.rows) report.score
@@ -37,4 +36,4 @@ pub record OfItsFile (file sheet : List ℕ) (head : Head) (sheet' : List ℕ) :
 
 -- every answer that the program's promise allows is one, where it is no refusal
 abbrev pub DemandOfProgram : Type 0
-DemandOfProgram = (file store sheet store' sheet' : List ℕ) (head : Head) → Answers file store sheet (answer.Reported head) store' sheet' → OfItsFile file sheet head sheet'
+DemandOfProgram = (file store sheet store' sheet' : List ℕ) (head : Head) → Answers file store sheet (Ok head) store' sheet' → OfItsFile file sheet head sheet'

@@ -4,11 +4,12 @@ use Rattle.replay.specs.Room.{Making}
 use Rattle.replay.specs.Table.{Outcome}
 use Rattle.replay.specs.Machine.{opening, asking, closing, Call, at_desk, room_question}
 use Rattle.store.specs.Making.{Makes}
-use Rattle.store.specs.declared.Made.TheVariants.{Done}
 use Rattle.rules.specs.Rules.{Answer, feed, reporting, charting, rules}
 use Rattle.calls.specs.Refusals.{written_of}
 use Rattle.changes.specs.Words.{Words}
-use Rattle.calls.specs.declared.ReportAnswer.{ReportAnswer}
+use Rattle.std.specs.Prelude.{Result, Ok}
+use Rattle.calls.specs.declared.Refusal.{Refusal}
+use Rattle.calls.specs.declared.Reported as written
 use Rattle.calls.specs.Promises.{Moves, Asks, Reports}
 
 -- a report, with the sheet that was lent to it before and after: it names how many numbers the sheet has, and its rows are those read from the
@@ -17,7 +18,7 @@ pub record OnSheet (σ : List ℕ) (d sheet place : ℕ) (o : Outcome Answer) (�
   pub before : List ℕ
   pub after : List ℕ
   pub named : length before ≡ sheet
-  pub answer : ReportAnswer
+  pub answer : Result written.Reported Refusal
   pub read : o ≡ written_of answer place after
   pub reports : Reports σ d place o before after
   pub only_read : τ ≡ σ
@@ -39,7 +40,7 @@ Does σ room_question o τ = OnlyAsked σ room_question o τ
 -- σ is what an accepted making of room K left, on any numbers
 pub record MadeNew (K : Making) (σ : List ℕ) : Type 0 where
   pub lent : List ℕ
-  pub makes : Makes K lent Done σ
+  pub makes : Makes K lent (Ok tt) σ
 
 -- calls one after the other, what each answered, and the numbers at the end
 pub data Run : List ℕ → List (Call rules) → List (Outcome Answer) → List ℕ → Type 0 where

@@ -33,7 +33,7 @@ use Rattle.store.proofs.Standing.{sound_stands}
 use Rattle.changes.specs.FedStore.{Acceptable, recent_at, is_counted}
 use Rattle.entering.specs.Seeking.{Found, Spanned}
 use Rattle.changes.proofs.Recent.{recent_within}
-use Rattle.changes.proofs.Before.{rising, standing, record_small}
+use Rattle.changes.proofs.Before.{standing, record_small}
 use Rattle.changes.proofs.Filling.{room_missing}
 
 pub askable : (s : List ℕ) → soundb s ≡ true → (d : ℕ) → Open s d → (i : Sample) → Askable d (recent_at s d i) (used s) (drop header_size s)

@@ -1,33 +1,23 @@
 -- The recent symbols of a sample, as they are copied. Assumes nothing.
-use mathlib.Core.Path.{◌≡◌, ap, ap₂, ◌∙◌}
+use mathlib.Core.Path.{◌≡◌, ap₂}
 use mathlib.Core.Bool.{true}
 use mathlib.Core.List.{List}
-use Prim.Native.Nat.{ℕ, min, ◌+◌, ◌*◌, ◌≤◌}
+use Prim.Native.Nat.{ℕ, min, ◌≤◌}
 use native.Mathlib.Omega.{arith}
 use borrow.Author.Tests.{leb-true}
-use lib.Dec.{leb}
-use lib.ListN.{length, take, drop}
-use Rattle.numbers.specs.Limits.{deepest}
+use lib.ListN.{length, take}
 use Rattle.contexts.specs.Sitting.{sample_of}
-use Rattle.store.specs.Layout.{desk_start, opening_numbers, field, depth_at, size_at, slots_at}
+use Rattle.store.specs.Layout.{depth_at, size_at, slots_at}
 use Rattle.store.specs.Sound.{soundb}
 use Rattle.store.specs.Plain.{Open}
 use Rattle.store.proofs.Standing.{sound_stands, slots_long}
 use Rattle.store.proofs.Passing.{header_long}
 use Rattle.changes.specs.FedStore.{recent_at, is_counted}
-use Rattle.changes.proofs.Numbering.{size_number, recent_number}
 
 module _ (s : List ℕ) (d k : ℕ) (h : soundb s ≡ true) (o : Open s d) (one : k ≤ 1) where
-  -- the six places are in the header
-  pub six_asked : 16 + 32 * d + (opening_numbers + 2 + 6 * k) + deepest ≤ length s
-  six_asked = omega (arith, header_long s h, o.desk)
-
   -- how many there are, and the six places themselves
   abbrev pub Copied : ℕ → List ℕ → Type 0
   Copied many slots = (many ≡ depth_at s d) × (slots ≡ slots_at s d (sample_of k))
-
-  pub copied : (many : ℕ) (slots : List ℕ) → many ≡ field s d 2 → slots ≡ take deepest (drop (16 + 32 * d + (opening_numbers + 2 + 6 * k)) s) → Copied many slots
-  copied many slots f q = (f, q ∙ ap (λ (y : ℕ). take deepest (drop (desk_start d + y) s)) (recent_number k one))
 
   -- the first so many of them are the symbols that the next one follows, where it is counted
   pub copied_recent : is_counted s d (sample_of k) ≡ true → (many : ℕ) (slots : List ℕ) → Copied many slots → (many ≤ length slots) × (take many slots ≡ recent_at s d (sample_of k))
@@ -35,7 +25,3 @@ module _ (s : List ℕ) (d k : ℕ) (h : soundb s ≡ true) (o : Open s d) (one 
       let enough : depth_at s d ≤ size_at s d (sample_of k) = leb-true (depth_at s d) (size_at s d (sample_of k)) counted in
       let m : many ≡ min (size_at s d (sample_of k)) (depth_at s d) = omega (arith, n, enough) in
       (rw (six, slots_long s d (sample_of k) o.desk (header_long s h)) (omega (arith, n, (sound_stands s h).depth d o)), ap₂ take m six)
-
-  -- whether its next symbol is counted, as the code has it
-  pub counted_is : (size depth : ℕ) → size ≡ field s d (opening_numbers + k) → depth ≡ field s d 2 → leb depth size ≡ is_counted s d (sample_of k)
-  counted_is size depth e f = ap₂ leb f (e ∙ ap (field s d) (size_number k one))

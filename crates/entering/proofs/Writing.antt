@@ -4,7 +4,7 @@ use mathlib.Core.Bool.{true, false}
 use mathlib.Core.List.{List, ◌++◌}
 use Prim.Native.Nat.{ℕ, ◌+◌, ◌-◌, ◌≤◌, ◌<◌}
 use native.Mathlib.Omega.{arith}
-use lib.ListN.{length, take, drop, get_or, take-append-drop}
+use lib.ListN.{length, take, drop, take-append-drop}
 use Rattle.numbers.specs.Limits.{longest, desks, most_room}
 use Rattle.contexts.specs.Sitting.{sample_of}
 use Rattle.records.specs.Records.{records}
@@ -27,7 +27,7 @@ use Rattle.entering.proofs.Asking.{feedable}
 
 -- what noting a feed in the header asks
 abbrev pub Noteable : List ℕ → ℕ → ℕ → Type 0
-Noteable s d k = (d < desks) × (k ≤ 1) × (header_size ≤ length s) × (size_at s d (sample_of k) < longest)
+Noteable s d k = (d < desks) × (header_size ≤ length s) × (size_at s d (sample_of k) < longest)
 
 module _ (s : List ℕ) (d k a : ℕ) (p : Acceptable s d (sample_of k) a) (one : k ≤ 1) (r : List ℕ) (e : r ≡ recent_at s d (sample_of k))
     (counted : is_counted s d (sample_of k) ≡ true) where
@@ -69,7 +69,7 @@ module _ (s : List ℕ) (d k a : ℕ) (p : Acceptable s d (sample_of k) a) (one 
     size_there = rw (has_header.header (desk_start d + size_field (sample_of k)) (omega (arith, p.at_open.desk, size_number k one))) p.not_full
 
     pub note_asks : Noteable back d k
-    note_asks = rw back_is (p.at_open.desk, one, omega (arith, has_header.enough, has_header.long), size_there)
+    note_asks = rw back_is (p.at_open.desk, omega (arith, has_header.enough, has_header.long), size_there)
 
     -- THEOREM. What comes of it is the store fed
     pub written : (t : List ℕ) → t ≡ noted m (desk_start d + size_field (sample_of k)) (desk_start d + recent_field (sample_of k)) a back → FedStore s t d (sample_of k) a
@@ -82,7 +82,7 @@ module _ (s : List ℕ) (d k a : ℕ) (p : Acceptable s d (sample_of k) a) (one 
   same = rw uncounted (record { live = refl; past = refl })
 
   pub header_asks : Noteable s d k
-  header_asks = (p.at_open.desk, one, header_long s p.sound, p.not_full)
+  header_asks = (p.at_open.desk, header_long s p.sound, p.not_full)
 
   -- THEOREM. What comes of it is the store fed
   pub header_written : (t : List ℕ) → t ≡ noted (used s) (desk_start d + size_field (sample_of k)) (desk_start d + recent_field (sample_of k)) a s → FedStore s t d (sample_of k) a

@@ -15,7 +15,7 @@ use Rattle.estimate.specs.Trees.{Kind, shared, own}
 use Rattle.estimate.specs.Score.{terms, fit_times}
 use Rattle.estimate.specs.Recursion.{spread}
 use Rattle.estimate.specs.Table.{counts_in, LossesOf}
-use Rattle.estimate.specs.Adding.{SumsOf, Addable, SumsAnd}
+use Rattle.estimate.specs.Adding.{SumsOf, Addable, SumsAnd, SumOf}
 use Rattle.estimate.specs.declared.ByKind.{ByKind}
 use Rattle.estimate.specs.declared.Sums.{Sums}
 use Rattle.estimate.proofs.Tables.{sum_shared}
@@ -86,10 +86,10 @@ module _ (t : List (List ℕ)) (small : sum_of (row_in t first) + sum_of (row_in
     spread_is c n w r total part e = rw (sym total, sym part) e
 
     -- the losses, from what `spread_of` gives
-    pub losses_are : (costs : ByKind) (x y z : ℕ) → x ≡ fit_times * ((s.first + s.second) * L (s.first + s.second) - s.terms.shared) → y ≡ fit_times * (s.first * L s.first - s.terms.first)
-        → z ≡ fit_times * (s.second * L s.second - s.terms.second) → LossesOf t costs (record { shared = costs.shared + x; first = costs.first + y; second = costs.second + z })
-    losses_are costs x y z e f g = record {
-      shared = ap (λ (n : ℕ). costs.shared + n) (spread_is (counts_in t shared) (s.first + s.second) s.terms.shared x both all.shared_terms e);
-      first = ap (λ (n : ℕ). costs.first + n) (spread_is (counts_in t (own first)) s.first s.terms.first y all.first_sum all.first_terms f);
-      second = ap (λ (n : ℕ). costs.second + n) (spread_is (counts_in t (own second)) s.second s.terms.second z all.second_sum all.second_terms g);
+    pub losses_are : (costs r : ByKind) (x y z : ℕ) → SumOf costs (record { shared = x; first = y; second = z }) r → x ≡ fit_times * ((s.first + s.second) * L (s.first + s.second) - s.terms.shared) → y ≡ fit_times * (s.first * L s.first - s.terms.first)
+        → z ≡ fit_times * (s.second * L s.second - s.terms.second) → LossesOf t costs r
+    losses_are costs r x y z added e f g = record {
+      shared = added.shared ∙ ap (λ (n : ℕ). costs.shared + n) (spread_is (counts_in t shared) (s.first + s.second) s.terms.shared x both all.shared_terms e);
+      first = added.first ∙ ap (λ (n : ℕ). costs.first + n) (spread_is (counts_in t (own first)) s.first s.terms.first y all.first_sum all.first_terms f);
+      second = added.second ∙ ap (λ (n : ℕ). costs.second + n) (spread_is (counts_in t (own second)) s.second s.terms.second z all.second_sum all.second_terms g);
     }

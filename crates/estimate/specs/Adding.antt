@@ -1,5 +1,5 @@
 -- How the losses of a context are added up, symbol by symbol. Assumes nothing.
-use Rattle.std.specs.Prelude.{ℕ, ◌+◌, ◌*◌, ◌≤◌, ◌≡◌, List}
+use Rattle.std.specs.Prelude.{ℕ, ◌+◌, ◌*◌, ◌^◌, ◌≤◌, ◌<◌, ◌≡◌, List}
 use Rattle.numbers.specs.Limits.{most_counted, top_log}
 use Rattle.numbers.specs.Sum.{sum}
 use Rattle.logarithm.specs.Logarithm.{L}
@@ -7,7 +7,20 @@ use Rattle.contexts.specs.Sitting.{first, second}
 use Rattle.estimate.specs.Trees.{shared, own}
 use Rattle.estimate.specs.Score.{terms}
 use Rattle.estimate.specs.Table.{counts_in}
+use Rattle.estimate.specs.declared.ByKind.{ByKind}
 use Rattle.estimate.specs.declared.Sums.{Sums}
+
+-- the sums of two, kind by kind
+pub record SumOf (x y r : ByKind) : Type 0 where
+  pub shared : r.shared ≡ x.shared + y.shared
+  pub first : r.first ≡ x.first + y.first
+  pub second : r.second ≡ x.second + y.second
+
+-- .. which are numbers of 64 bits
+pub record SumFits (x y : ByKind) : Type 0 where
+  pub shared : x.shared + y.shared < 2 ^ 64
+  pub first : x.first + y.first < 2 ^ 64
+  pub second : x.second + y.second < 2 ^ 64
 
 -- what the counts of the first n symbols of a table add up to, and what their terms do
 pub record SumsOf (n : ℕ) (t : List (List ℕ)) (r : Sums) : Type 0 where

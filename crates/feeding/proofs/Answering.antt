@@ -43,8 +43,8 @@ module _ (s : List ℕ) (d k a : ℕ) (j : Judged s d k a) where
     unfolding sum
     stays = rw uncounted (omega (arith, (sound_stands s j.sound).reserved_held d j.at_open))
 
-    pub header_asks : Acceptable s d (sample_of k) a × (k ≤ 1) × (is_counted s d (sample_of k) ≡ false)
-    header_asks = (acceptable stays, j.of_samples, uncounted)
+    pub header_asks : Acceptable s d (sample_of k) a × (is_counted s d (sample_of k) ≡ false)
+    header_asks = (acceptable stays, uncounted)
 
     pub header_kept : (t : List ℕ) → FedStore s t d (sample_of k) a → Moves s (at_desk d (asking (feed k a))) (answered done) t
     header_kept t g = fed_moves s t d k a j.of_samples (acceptable stays) g
@@ -78,8 +78,8 @@ module _ (s : List ℕ) (d k a : ℕ) (j : Judged s d k a) where
           within : then ≤ reserve_at s d
           within = ltb-false (reserve_at s d) then (sym past_is ∙ l)
 
-          pub write_asks : Acceptable s d (sample_of k) a × (k ≤ 1) × (r ≡ recent_at s d (sample_of k)) × Located d r (records_in s) m places × (is_counted s d (sample_of k) ≡ true)
-          write_asks = (acceptable within, j.of_samples, is-recent, at, counted)
+          pub write_asks : Acceptable s d (sample_of k) a × (r ≡ recent_at s d (sample_of k)) × Located d r (records_in s) m places × (is_counted s d (sample_of k) ≡ true)
+          write_asks = (acceptable within, is-recent, at, counted)
 
           pub fed_kept : (t : List ℕ) → FedStore s t d (sample_of k) a → Moves s (at_desk d (asking (feed k a))) (answered done) t
           fed_kept t g = fed_moves s t d k a j.of_samples (acceptable within) g

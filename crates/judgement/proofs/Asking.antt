@@ -20,15 +20,15 @@ use Rattle.rules.specs.Rules as sitting
 use Rattle.rules.proofs.OwnReport.{own_report}
 use Rattle.calls.specs.Refusals.{written_of}
 use Rattle.calls.specs.Promises.{Reports}
-use Rattle.calls.specs.declared.ReportAnswer.{ReportAnswer}
-use Rattle.calls.specs.declared.ReportAnswer.TheVariants as written
 use Rattle.sitting_file.specs.Samples.{Holds, first_of, second_of}
 use Rattle.sitting_file.specs.declared.Shape.{Shape}
 use Rattle.judgement.specs.Judgement.{opening_of, strings_in, file_sitting, empty_sample, short_sample, FileReport}
 use Rattle.judgement.specs.Answers as answers
 use Rattle.judgement.specs.Answers.{headed, sheet_left, told_of}
-use Rattle.judgement.specs.declared.SittingAnswer.{SittingAnswer}
-use Rattle.judgement.specs.declared.SittingAnswer.TheVariants as answer
+use Rattle.std.specs.Prelude.{Result, Ok, Err}
+use Rattle.printing.specs.declared.Head.{Head}
+use Rattle.calls.specs.declared.Refusal.{Refusal}
+use Rattle.calls.specs.declared.Reported as written
 use Rattle.judgement.proofs.Feeds.{Sits}
 
 -- ---- one table, two answers
@@ -81,14 +81,14 @@ module _ (shape : Shape) (its : Reported) (store sheet sheet' : List ℕ) where
   abbrev mine : FileReport
   mine = record { shape = shape; report = its }
 
-  pub told_right : (r : ReportAnswer) (o : Outcome Answer) (j : Outcome FileReport) → Alike (reported its) mine o j → written_of r 0 sheet' ≡ o → told_of shape r ≡ answers.answer_for j
+  pub told_right : (r : Result written.Reported Refusal) (o : Outcome Answer) (j : Outcome FileReport) → Alike (reported its) mine o j → written_of r 0 sheet' ≡ o → told_of shape r ≡ answers.answer_for j
   unfolding answers.answer_for
-  told_right (written.Rows n z) o j (by_number k) e = never e
-  told_right (written.Rows n z) o j by_answer e =
+  told_right (Ok r) o j (by_number k) e = never e
+  told_right (Ok r) o j by_answer e =
       let f = reported_same e in
-      ap₂ {C = SittingAnswer} (λ (k : ℕ) (s : ℤ). answer.Reported (headed shape k s)) (rows_read n (drop (row_width * 0) sheet') ∙ ap (λ (q : Reported). length q.rows) f) (ap (λ (q : Reported). q.score) f)
-  told_right (written.Refused why) o j (by_number k) e = ap {B = SittingAnswer} (λ (n : ℕ). answer.Refused n) (number_same e)
-  told_right (written.Refused why) o j by_answer e = never (sym e)
+      ap₂ {C = Result Head ℕ} (λ (k : ℕ) (s : ℤ). Ok (headed shape k s)) (rows_read r.rows (drop (row_width * 0) sheet') ∙ ap (λ (q : Reported). length q.rows) f) (ap (λ (q : Reported). q.score) f)
+  told_right (Err why) o j (by_number k) e = ap {B = Result Head ℕ} (λ (n : ℕ). Err n) (number_same e)
+  told_right (Err why) o j by_answer e = never (sym e)
 
   pub sheet_right : (o out : Outcome Answer) (j : Outcome FileReport) → Alike (reported its) mine o j → Reports store 0 0 out sheet sheet' → out ≡ o → sheet' ≡ sheet_left j sheet
   unfolding sheet_left

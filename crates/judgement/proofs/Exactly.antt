@@ -11,13 +11,12 @@ use Rattle.rules.specs.Report.{report}
 use Rattle.rules.specs.Orders.{program_order, numbers_in}
 use Rattle.sitting_file.specs.Format.{read_of}
 use Rattle.sitting_file.specs.declared.Shape.{Shape}
-use Rattle.sitting_file.specs.declared.Reading.TheVariants.{Accepted}
 use Rattle.judgement.specs.Judgement.{file_sitting, file_lines, FileReport, judged}
 use Rattle.judgement.specs.Answers.{answer_for, Answers}
-use Rattle.judgement.specs.declared.SittingAnswer.{SittingAnswer}
-use Rattle.judgement.specs.declared.SittingAnswer.TheVariants.{Refused}
+use Rattle.std.specs.Prelude.{Result, Ok, Err}
+use Rattle.printing.specs.declared.Head.{Head}
 
-refusal_of_lem : (j : Outcome FileReport) (n : ℕ) → answer_for j ≡ Refused n → j ≡ refused n
+refusal_of_lem : (j : Outcome FileReport) (n : ℕ) → answer_for j ≡ Err n → j ≡ refused n
 unfolding answer_for
 refusal_of_lem (refused k) n e = let same : k ≡ n = cc in ap refused same
 refusal_of_lem (answered x) n e = let z : ◌≡◌ {A = ℕ} 0 1 = cc in absurd (omega arith)
@@ -26,7 +25,7 @@ refusal_of_lem (answered x) n e = let z : ◌≡◌ {A = ℕ} 0 1 = cc in absurd
 pub file_in_order : (file : List ℕ) (shape : Shape) (sheet : ℕ) → numbers_in (file_lines file shape sheet) ≡ program_order
 file_in_order file shape sheet = refl
 
-module _ (file store sheet store' sheet' : List ℕ) (r : SittingAnswer) (a : Answers file store sheet r store' sheet') (shape : Shape) (e : read_of file ≡ Accepted shape) where
+module _ (file store sheet store' sheet' : List ℕ) (r : Result Head ℕ) (a : Answers file store sheet r store' sheet') (shape : Shape) (e : read_of file ≡ Ok shape) where
   abbrev mine : FileReport
   mine = record { shape = shape; report = report (file_sitting file shape) }
 
@@ -35,7 +34,7 @@ module _ (file store sheet store' sheet' : List ℕ) (r : SittingAnswer) (a : An
   as_told = a.answer ∙ ap answer_for (ap (judged file (length sheet)) e)
 
   -- THEOREM. 10, 11, 24 and 12 exactly when that is the first line that applies
-  pub refuses_exactly : (n : ℕ) → (r ≡ Refused n) ↔ First (file_lines file shape (length sheet)) n
+  pub refuses_exactly : (n : ℕ) → (r ≡ Err n) ↔ First (file_lines file shape (length sheet)) n
   unfolding answer_for
   refuses_exactly n =
       let t = refused_exactly (file_lines file shape (length sheet)) mine n in

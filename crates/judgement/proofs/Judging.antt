@@ -11,31 +11,28 @@ use Rattle.replay.specs.Machine.{asking, at_desk, verdict}
 use Rattle.replay.proofs.Tables.{number_same}
 use Rattle.rules.specs.Report.{Reported, report}
 use Rattle.rules.specs.Rules.{done, reporting, reported, rules}
-use Rattle.calls.specs.Refusals.{refusal_number, written_of, ending_of}
+use Rattle.calls.specs.Refusals.{written_of}
 use Rattle.calls.specs.Promises.{Reports}
 use Rattle.calls.specs.declared.Refusal.{Refusal}
-use Rattle.calls.specs.declared.ReportAnswer.{ReportAnswer}
-use Rattle.calls.specs.declared.Ending.{Ending}
-use Rattle.calls.specs.declared.Ending.TheVariants as ending
 use Rattle.sitting_file.specs.Format.{read_of}
 use Rattle.sitting_file.specs.Format as format
 use Rattle.sitting_file.specs.declared.Refusal as fault
 use Rattle.sitting_file.specs.declared.Shape.{Shape}
-use Rattle.sitting_file.specs.declared.Reading.{Reading}
-use Rattle.sitting_file.specs.declared.Reading.TheVariants as reading
+use Rattle.sitting_file.specs.Format.{Reading}
 use Rattle.sitting_file.proofs.AcceptedFile.{accepted_holds}
 use Rattle.judgement.specs.Judgement.{room_made, opening_of, strings_in, file_sitting, FileReport, judged, judgement}
 use Rattle.judgement.specs.Sitting.{run_of, Feeds}
 use Rattle.judgement.specs.Answers as answers
 use Rattle.judgement.specs.Answers.{sheet_left, told_of, StoreAfter, Answers}
-use Rattle.judgement.specs.declared.SittingAnswer.{SittingAnswer}
-use Rattle.judgement.specs.declared.SittingAnswer.TheVariants as answer
+use Rattle.std.specs.Prelude.{Result, Ok, Err}
+use Rattle.printing.specs.declared.Head.{Head}
+use Rattle.calls.specs.declared.Reported as written
 use Rattle.judgement.proofs.Feeds.{Ran, whole, stopped}
 use Rattle.judgement.proofs.Both.{file_told}
 use Rattle.judgement.proofs.Asking.{alike, late, asked, never, told_right, sheet_right}
 
 module _ (file store sheet : List ℕ) where
-  from_judged : (x : Reading) → read_of file ≡ x → (j : Outcome FileReport) → judged file (length sheet) x ≡ j → (r : SittingAnswer) (store' sheet' : List ℕ)
+  from_judged : (x : Reading) → read_of file ≡ x → (j : Outcome FileReport) → judged file (length sheet) x ≡ j → (r : Result Head ℕ) (store' sheet' : List ℕ)
       → r ≡ answers.answer_for j → sheet' ≡ sheet_left j sheet → StoreAfter file x store store' → Answers file store sheet r store' sheet'
   from_judged x e j f r store' sheet' a s n =
       let g : judgement file (length sheet) ≡ j = ap (judged file (length sheet)) e ∙ f in
@@ -46,59 +43,52 @@ module _ (file store sheet : List ℕ) where
       }
 
   -- the reader refuses
-  pub reader_refuses : (why : fault.Refusal) → read_of file ≡ reading.Refused why → (r : ℕ) → r ≡ format.refusal_number why → Answers file store sheet (answer.Refused r) store sheet
+  pub reader_refuses : (why : fault.Refusal) → read_of file ≡ Err why → Answers file store sheet (Err (format.refusal_number why)) store sheet
   unfolding judged answers.answer_for sheet_left
-  reader_refuses why e r f = from_judged (reading.Refused why) e (refused (format.refusal_number why)) refl (answer.Refused r) store sheet (ap {B = SittingAnswer} (λ (n : ℕ). answer.Refused n) f) refl refl
+  reader_refuses why e = from_judged (Err why) e (refused (format.refusal_number why)) refl _ store sheet refl refl refl
 
-  module _ (shape : Shape) (e : read_of file ≡ reading.Accepted shape) where
+  module _ (shape : Shape) (e : read_of file ≡ Ok shape) where
     abbrev its_lines : List Line
     its_lines = late file shape (accepted_holds file shape e) (length sheet)
 
-    past_judged : room_made < contexts_held (file_sitting file shape) → judged file (length sheet) (reading.Accepted shape) ≡ refused 10
+    past_judged : room_made < contexts_held (file_sitting file shape) → judged file (length sheet) (Ok shape) ≡ refused 10
     unfolding judged verdict_of
     past_judged h = rw (lt-ltb room_made (contexts_held (file_sitting file shape)) h)
 
     within_judged : contexts_held (file_sitting file shape) ≤ room_made
-        → judged file (length sheet) (reading.Accepted shape) ≡ verdict_of its_lines (record { shape = shape; report = report (file_sitting file shape) })
+        → judged file (length sheet) (Ok shape) ≡ verdict_of its_lines (record { shape = shape; report = report (file_sitting file shape) })
     unfolding judged verdict_of
     within_judged h = rw (le-ltb room_made (contexts_held (file_sitting file shape)) h)
 
     -- a feed is refused
-    pub feed_refused : (x : Ending) (why : Refusal) (n : ℕ) (store' : List ℕ) → x ≡ ending.Refused why → n ≡ refusal_number why → Feeds (ending_of x) store' (run_of file shape)
-        → Answers file store sheet (answer.Refused n) store' sheet
+    pub feed_refused : (n : ℕ) (store' : List ℕ) → Feeds (refused n) store' (run_of file shape) → Answers file store sheet (Err n) store' sheet
     unfolding answers.answer_for sheet_left
-    feed_refused x why n store' q r f = go (file_told file shape (accepted_holds file shape e))
+    feed_refused n store' f = go (file_told file shape (accepted_holds file shape e))
       where
-        ended : (run_of file shape).ending ≡ refused n
-        ended = sym f.ends ∙ ap ending_of q ∙ ap refused (sym r)
-
-        go : Ran (opening_of shape) (strings_in file shape) (run_of file shape) → Answers file store sheet (answer.Refused n) store' sheet
-        go (whole fits d s) = never (sym d ∙ ended)
+        go : Ran (opening_of shape) (strings_in file shape) (run_of file shape) → Answers file store sheet (Err n) store' sheet
+        go (whole fits d s) = never (sym d ∙ sym f.ends)
         go (stopped past d) =
-            let ten : n ≡ 10 = number_same (sym ended ∙ d) in
-            from_judged (reading.Accepted shape) e (refused 10) (past_judged past) (answer.Refused n) store' sheet (ap {B = SittingAnswer} (λ (k : ℕ). answer.Refused k) ten) refl f.means
+            let ten : n ≡ 10 = number_same (f.ends ∙ d) in
+            from_judged (Ok shape) e (refused 10) (past_judged past) (Err n) store' sheet (ap {B = Result Head ℕ} (λ (k : ℕ). Err k) ten) refl f.means
 
     -- both samples are fed, and the report is asked for
-    pub report_told : (x : Ending) (r : ReportAnswer) (t : SittingAnswer) (store' sheet' : List ℕ) → x ≡ ending.Whole → t ≡ told_of shape r → Feeds (ending_of x) store' (run_of file shape)
-        → Reports store' 0 0 (written_of r 0 sheet') sheet sheet' → Answers file store sheet t store' sheet'
-    report_told x r t store' sheet' q g f p = go (file_told file shape (accepted_holds file shape e))
+    pub report_told : (r : Result written.Reported Refusal) (store' sheet' : List ℕ) → Feeds (answered done) store' (run_of file shape) → Reports store' 0 0 (written_of r 0 sheet') sheet sheet'
+        → Answers file store sheet (told_of shape r) store' sheet'
+    report_told r store' sheet' f p = go (file_told file shape (accepted_holds file shape e))
       where
-        ended : (run_of file shape).ending ≡ answered done
-        ended = sym f.ends ∙ ap ending_of q
-
         its : Reported
         its = report (file_sitting file shape)
 
         mine : FileReport
         mine = record { shape = shape; report = its }
 
-        go : Ran (opening_of shape) (strings_in file shape) (run_of file shape) → Answers file store sheet t store' sheet'
-        go (stopped past d) = never (sym ended ∙ d)
+        go : Ran (opening_of shape) (strings_in file shape) (run_of file shape) → Answers file store sheet (told_of shape r) store' sheet'
+        go (stopped past d) = never (f.ends ∙ d)
         go (whole fits d s) =
             let same = alike (reported its) mine its_lines in
             let asks : written_of r 0 sheet' ≡ verdict_of its_lines (reported its) =
             p.asks.answers f.means.sound
             ∙ ap (λ (ρ : Room Progress). verdict rules ρ (at_desk 0 (asking (reporting (length sheet) 0)))) f.means.room
             ∙ asked file shape (accepted_holds file shape e) (length sheet) (run_of file shape).room s in
-            from_judged (reading.Accepted shape) e (verdict_of its_lines mine) (within_judged fits) t store' sheet' (g ∙ told_right shape its store' sheet sheet' r _ _ same asks)
+            from_judged (Ok shape) e (verdict_of its_lines mine) (within_judged fits) (told_of shape r) store' sheet' (told_right shape its store' sheet sheet' r _ _ same asks)
             (sheet_right shape its store' sheet sheet' _ _ _ same p asks) f.means

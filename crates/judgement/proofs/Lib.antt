@@ -3,10 +3,10 @@ pub mod Feeds
 pub mod Both
 pub mod Asking
 pub mod Judging
-pub mod Telling
 pub mod Seating
 pub mod Settled
 pub mod Texts
 pub mod Examples
 pub mod Longer
 pub mod Exactly
+pub mod Numbered

@@ -8,7 +8,7 @@ use lib.ListN.{length, take}
 use lib.Seq.{take_all}
 use Rattle.sitting_file.specs.Format.{read_of}
 use Rattle.sitting_file.specs.Input.{input_bytes}
-use Rattle.sitting_file.specs.declared.Reading.{Reading}
+use Rattle.sitting_file.specs.Format.{Reading}
 use Rattle.sitting_file.proofs.InputRead.{first_read, bytes_judged}
 use Rattle.sitting_file.proofs.LongInput.{input_judged}
 use Rattle.replay.specs.Table.{Outcome}
@@ -16,7 +16,8 @@ use Rattle.printing.specs.Putting.{Printed}
 use Rattle.judgement.specs.Judgement.{sheet_numbers, FileReport, judged, judgement}
 use Rattle.judgement.specs.Answers.{answer_for, sheet_left, StoreAfter, Answers}
 use Rattle.judgement.specs.Prints.{text_of, Prints, PrintsInput}
-use Rattle.judgement.specs.declared.SittingAnswer.{SittingAnswer}
+use Rattle.std.specs.Prelude.{Result}
+use Rattle.printing.specs.declared.Head.{Head}
 
 -- THEOREM. "Longer input is judged on its first 4,608 bytes": the judgement is the whole input's
 pub input_read : (input : List ℕ) (sheet : ℕ) → judgement (take input_bytes input) sheet ≡ judgement input sheet
@@ -36,7 +37,7 @@ module _ (input store store' : List ℕ) where
     | no h ↦ subst (λ (l : List ℕ). StoreAfter l (read_of l) store store') (take_all input_bytes input (omega arith)) a
   ]
 
-  answers_read : {sheet sheet' : List ℕ} {r : SittingAnswer} → Answers (take input_bytes input) store sheet r store' sheet' → Answers input store sheet r store' sheet'
+  answers_read : {sheet sheet' : List ℕ} {r : Result Head ℕ} → Answers (take input_bytes input) store sheet r store' sheet' → Answers input store sheet r store' sheet'
   answers_read {sheet} {sheet'} {r} a =
       let e : judgement (take input_bytes input) (length sheet) ≡ judgement input (length sheet) = input_read input (length sheet) in
       record {

@@ -15,29 +15,25 @@ use Rattle.store.specs.Layout.{store_size}
 use Rattle.store.specs.Sound.{soundb}
 use Rattle.store.specs.Meaning.{meaning}
 use Rattle.store.specs.Making.{Makes, made_of}
-use Rattle.store.specs.declared.Made.{Made}
-use Rattle.store.specs.declared.Made.TheVariants.{Done}
 use Rattle.rules.specs.Rules.{Answer, done, rules}
 use Rattle.calls.specs.Promises.{Moves}
-use Rattle.calls.specs.Refusals.{refusal_number, ending_of}
-use Rattle.calls.specs.declared.Refusal.{Refusal}
 use Rattle.calls.specs.Run.{FeedRun, fed_run, Runs}
-use Rattle.calls.specs.declared.Ending.{Ending}
-use Rattle.calls.specs.declared.Ending.TheVariants as ending
+use Rattle.std.specs.Prelude.{Result, Ok}
+use Rattle.store.specs.declared.Refusal as making
 use Rattle.sitting_file.specs.Samples.{first_of, second_of}
 use Rattle.sitting_file.specs.declared.Shape.{Shape}
 use Rattle.judgement.specs.Judgement.{room_made, opening_of}
 use Rattle.judgement.specs.Sitting.{seated, followed_by, fed_both, run_of, Means, Feeds}
 
 -- a store long enough is made
-made_done : (s : List ℕ) → store_size room_made ≤ length s → made_of room_made (length s) ≡ Done
+made_done : (s : List ℕ) → store_size room_made ≤ length s → made_of room_made (length s) ≡ Ok tt
 made_done s h = rw (le-ltb (length s) (store_size room_made) h)
 
-pub seat_means : (shape : Shape) (s t u : List ℕ) (made : Made) (v : Outcome Answer) → store_size room_made ≤ length s → Makes room_made s made t
+pub seat_means : (shape : Shape) (s t u : List ℕ) (made : Result (Unit {0}) making.Refusal) (v : Outcome Answer) → store_size room_made ≤ length s → Makes room_made s made t
     → Moves t (at_desk 0 (opening (opening_of shape))) v u → Means u (seated shape)
 unfolding seated
 seat_means shape s t u made v h m p =
-    let d : made ≡ Done = m.answered ∙ made_done s h in
+    let d : made ≡ Ok tt = m.answered ∙ made_done s h in
     let sound = m.sound_after d in
     record { sound = p.stays_sound sound; room = p.moves sound ∙ ap (λ (ρ : Room Progress). move rules ρ (at_desk 0 (opening (opening_of shape)))) (m.means d) }
 
@@ -46,16 +42,15 @@ module _ (s t us vs : List ℕ) (sound : soundb s ≡ true) where
   abbrev both : FeedRun
   both = fed_both us vs (meaning s)
 
-  pub first_stops : (n : ℕ) (why : Refusal) (x : Ending) → x ≡ ending.Refused why → Runs s 0 0 us n (ending_of x) t → Feeds (refused (refusal_number why)) t both
+  pub first_stops : (n m : ℕ) → Runs s 0 0 us n (refused m) t → Feeds (refused m) t both
   unfolding fed_both followed_by
-  first_stops n why x q r =
-      let e : (fed_run 0 0 us (meaning s)).ending ≡ refused (refusal_number why) = sym (r.ends sound) ∙ ap ending_of q in
-      rw e (record { ends = refl; means = record { sound = r.stays_sound sound; room = r.moves sound } })
+  first_stops n m r =
+      rw (sym (r.ends sound)) (record { ends = refl; means = record { sound = r.stays_sound sound; room = r.moves sound } })
 
-  pub second_ends : (u : List ℕ) (n m : ℕ) (x : Ending) (o : Outcome Answer) → x ≡ ending.Whole → Runs s 0 0 us n (ending_of x) t → Runs t 0 1 vs m o u → Feeds o u both
+  pub second_ends : (u : List ℕ) (n m : ℕ) (o : Outcome Answer) → Runs s 0 0 us n (answered done) t → Runs t 0 1 vs m o u → Feeds o u both
   unfolding fed_both followed_by
-  second_ends u n m x o w r q =
-      let e : (fed_run 0 0 us (meaning s)).ending ≡ answered done = sym (r.ends sound) ∙ ap ending_of w in
+  second_ends u n m o r q =
+      let e : (fed_run 0 0 us (meaning s)).ending ≡ answered done = sym (r.ends sound) in
       let then = r.stays_sound sound in
       let f = r.moves sound in
       rw (e, ← f) (record { ends = q.ends then; means = record { sound = q.stays_sound then; room = q.moves then } })

@@ -8,24 +8,24 @@ use Rattle.store.specs.Meaning.{meaning}
 use Rattle.sitting_file.specs.Format.{read_of}
 use Rattle.sitting_file.specs.declared.Shape.{Shape}
 use Rattle.sitting_file.specs.declared.Refusal.{Refusal}
-use Rattle.sitting_file.specs.declared.Reading.{Reading}
-use Rattle.sitting_file.specs.declared.Reading.TheVariants.{Accepted, Refused}
+use Rattle.sitting_file.specs.Format.{Reading}
 use Rattle.printing.proofs.Settled.{printed_settles}
 use Rattle.judgement.specs.Judgement.{sheet_numbers, judgement}
 use Rattle.judgement.specs.Prints.{text_of, Prints, PrintsInput}
 use Rattle.judgement.specs.Sitting.{run_of, Means}
 use Rattle.judgement.specs.Answers.{answer_for, StoreAfter, Answers}
-use Rattle.judgement.specs.declared.SittingAnswer.{SittingAnswer}
+use Rattle.std.specs.Prelude.{Result, Ok, Err}
+use Rattle.printing.specs.declared.Head.{Head}
 
 -- two stores lent, with one sheet; how many numbers a store has is its type's
-pub record SameAnswer (file store other : List ℕ) (r q : SittingAnswer) (x y sheet sheet' : List ℕ) : Type 0 where
+pub record SameAnswer (file store other : List ℕ) (r q : Result Head ℕ) (x y sheet sheet' : List ℕ) : Type 0 where
   pub answer : r ≡ q
   pub sheet_same : sheet ≡ sheet'
-  pub refused_stays : (why : Refusal) → read_of file ≡ Refused why → (x ≡ store) × (y ≡ other)
-  pub meaning_same : (shape : Shape) → read_of file ≡ Accepted shape → meaning x ≡ meaning y
-  pub sound_same : (shape : Shape) → read_of file ≡ Accepted shape → soundb x ≡ soundb y
+  pub refused_stays : (why : Refusal) → read_of file ≡ Err why → (x ≡ store) × (y ≡ other)
+  pub meaning_same : (shape : Shape) → read_of file ≡ Ok shape → meaning x ≡ meaning y
+  pub sound_same : (shape : Shape) → read_of file ≡ Ok shape → soundb x ≡ soundb y
 
-module _ (file store other lent : List ℕ) (r q : SittingAnswer) (x y sheet sheet' : List ℕ) where
+module _ (file store other lent : List ℕ) (r q : Result Head ℕ) (x y sheet sheet' : List ℕ) where
   -- THEOREM. Whatever the promise allows has one answer and one sheet; the store stays, or stands for one room
   pub answers_settled : Answers file store lent r x sheet → Answers file other lent q y sheet' → SameAnswer file store other r q x y sheet sheet'
   answers_settled a b = record {
@@ -36,10 +36,10 @@ module _ (file store other lent : List ℕ) (r q : SittingAnswer) (x y sheet she
     sound_same = λ shape e. (means a e).sound ∙ sym (means b e).sound;
   }
     where
-      stays : {s t l u : List ℕ} {z : SittingAnswer} {why : Refusal} → Answers file s l z t u → read_of file ≡ Refused why → t ≡ s
+      stays : {s t l u : List ℕ} {z : Result Head ℕ} {why : Refusal} → Answers file s l z t u → read_of file ≡ Err why → t ≡ s
       stays {s} {t} p e = subst (λ (v : Reading). StoreAfter file v s t) e p.numbers
 
-      means : {s t l u : List ℕ} {z : SittingAnswer} {shape : Shape} → Answers file s l z t u → read_of file ≡ Accepted shape → Means t (run_of file shape).room
+      means : {s t l u : List ℕ} {z : Result Head ℕ} {shape : Shape} → Answers file s l z t u → read_of file ≡ Ok shape → Means t (run_of file shape).room
       means {s} {t} p e = subst (λ (v : Reading). StoreAfter file v s t) e p.numbers
 
 -- two texts put, with two stores lent

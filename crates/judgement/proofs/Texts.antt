@@ -18,13 +18,13 @@ use Rattle.printing.specs.Putting.{Printed}
 use Rattle.printing.proofs.Reports.{rows_first}
 use Rattle.sitting_file.specs.Format.{read_of}
 use Rattle.sitting_file.specs.Samples.{InLimits}
-use Rattle.sitting_file.specs.declared.Reading.{Reading}
-use Rattle.sitting_file.specs.declared.Reading.TheVariants as reading
+use Rattle.sitting_file.specs.Format.{Reading}
 use Rattle.sitting_file.proofs.AcceptedFile.{accepted_holds}
 use Rattle.judgement.specs.Judgement.{sheet_numbers, file_sitting, file_lines, FileReport, judged, judgement}
 use Rattle.judgement.specs.Answers.{answer_for, sheet_left, Answers}
 use Rattle.judgement.specs.Prints.{lines_text, text_of, CanPrint, text_from, Prints}
-use Rattle.judgement.specs.declared.SittingAnswer.{SittingAnswer}
+use Rattle.std.specs.Prelude.{Result, Ok, Err}
+use Rattle.printing.specs.declared.Head.{Head}
 
 -- rows one after another, whatever follows them on the sheet
 rows_lines : (A : ℕ) (rs : List Row) (rest : List ℕ) → AllFit rs → rows_text A (length rs) (rows.sheet_of rs ++ rest) ≡ lines_text A rs
@@ -42,7 +42,7 @@ rows_long (r ∷ rs) f = omega (arith, f.0.counts, rows_long rs f.1, length-appe
 
 -- ---- a file that is reported on
 pub record Stands (file : List ℕ) (sheet : ℕ) (x : FileReport) : Type 0 where
-  pub accepted : read_of file ≡ reading.Accepted x.shape
+  pub accepted : read_of file ≡ Ok x.shape
   pub limits : InLimits x.shape
   pub own : x.report ≡ report (file_sitting file x.shape)
   pub fits : length x.report.rows ≤ sheet / row_width
@@ -52,13 +52,13 @@ unfolding judged
 stands file sheet x e = go (read_of file) refl e
   where
     go : (y : Reading) → read_of file ≡ y → judged file sheet y ≡ answered x → Stands file sheet x
-    go (reading.Refused why) r e = let z : ◌≡◌ {A = ℕ} 0 1 = cc in absurd (omega arith)
-    go (reading.Accepted shape) r e =
+    go (Err why) r e = let z : ◌≡◌ {A = ℕ} 0 1 = cc in absurd (omega arith)
+    go (Ok shape) r e =
         let n = answers_none (file_lines file shape sheet) (record { shape = shape; report = report (file_sitting file shape) }) x e in
         let f = ltb-false (sheet / row_width) (0 + length (report_of (file_sitting file shape))) n.0.1.1.1.0 in
         subst (Stands file sheet) n.1 (record { accepted = r; limits = (accepted_holds file shape r).limits; own = refl; fits = omega arith })
 
-module _ (file store sheet store' sheet' : List ℕ) (r : SittingAnswer) (a : Answers file store sheet r store' sheet') where
+module _ (file store sheet store' sheet' : List ℕ) (r : Result Head ℕ) (a : Answers file store sheet r store' sheet') where
   abbrev its : Outcome FileReport
   its = judgement file (length sheet)
 
@@ -83,7 +83,7 @@ module _ (file store sheet store' sheet' : List ℕ) (r : SittingAnswer) (a : An
   -- a sheet of 512 rows
   pub can_print : length sheet' ≡ sheet_numbers → CanPrint r sheet'
   unfolding answer_for
-  can_print n = subst (λ (q : SittingAnswer). CanPrint q sheet') (sym a.answer) (go its refl)
+  can_print n = subst (λ (q : Result Head ℕ). CanPrint q sheet') (sym a.answer) (go its refl)
     where
       go : (j : Outcome FileReport) → its ≡ j → CanPrint (answer_for j) sheet'
       go (refused k) e = tt
@@ -109,5 +109,5 @@ module _ (file store sheet store' sheet' : List ℕ) (r : SittingAnswer) (a : An
       let e : its ≡ judgement file sheet_numbers = ap (judgement file) (sym length_kept ∙ m) in
       record {
         printed = subst (λ (t : List ℕ). Printed t bytes bytes' n) (text_same ∙ ap text_of e) p;
-        answers = subst (λ (q : SittingAnswer). Answers file store sheet q store' sheet') (a.answer ∙ ap answer_for e) a;
+        answers = subst (λ (q : Result Head ℕ). Answers file store sheet q store' sheet') (a.answer ∙ ap answer_for e) a;
       }

@@ -10,8 +10,8 @@ use Rattle.rules.specs.Strings.{sitting_for}
 use Rattle.sitting_file.specs.Format.{refusal_number, read_of}
 use Rattle.sitting_file.specs.Samples.{first_of, second_of}
 use Rattle.sitting_file.specs.declared.Shape.{Shape}
-use Rattle.sitting_file.specs.declared.Reading.{Reading}
-use Rattle.sitting_file.specs.declared.Reading.TheVariants as reading
+use Rattle.sitting_file.specs.Format.{Reading}
+use Rattle.std.specs.Prelude.{Ok, Err}
 
 -- "K 256", "r 256"
 abbrev pub room_made : ℕ
@@ -62,8 +62,8 @@ pub record FileReport : Type 0 where
 
 -- 13 to 16 where the reader refuses; else the first line that applies; else the report of the file's own sitting
 unfoldable pub judged : List ℕ → ℕ → Reading → Outcome FileReport
-judged file sheet (reading.Refused why) = refused (refusal_number why)
-judged file sheet (reading.Accepted shape) = verdict_of (file_lines file shape sheet) (record { shape = shape; report = report (file_sitting file shape) })
+judged file sheet (Err why) = refused (refusal_number why)
+judged file sheet (Ok shape) = verdict_of (file_lines file shape sheet) (record { shape = shape; report = report (file_sitting file shape) })
 
 abbrev pub judgement : List ℕ → ℕ → Outcome FileReport
 judgement file sheet = judged file sheet (read_of file)

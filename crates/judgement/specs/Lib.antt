@@ -1,3 +1,4 @@
+pub mod Refusals
 pub mod Judgement
 pub mod Sitting
 pub mod Answers

@@ -7,8 +7,8 @@ use Rattle.printing.specs.Putting.{Printable, Printed}
 use Rattle.sitting_file.specs.Input.{input_bytes, ReadInto}
 use Rattle.judgement.specs.Judgement.{sheet_numbers, FileReport, judgement}
 use Rattle.judgement.specs.Answers.{answer_for, Answers}
-use Rattle.judgement.specs.declared.SittingAnswer.{SittingAnswer}
-use Rattle.judgement.specs.declared.SittingAnswer.TheVariants.{Reported, Refused}
+use Rattle.std.specs.Prelude.{Result, Ok, Err}
+use Rattle.printing.specs.declared.Head.{Head}
 
 -- "then a line for each row with kind, length, code and A counts"
 unfoldable pub lines_text : ℕ → List Row → List ℕ
@@ -39,11 +39,11 @@ pub record PrintsInput (buffer : List ℕ) (many : ℕ) (store sheet bytes : Lis
 -- ---- an answer that is put
 
 -- its rows stand on the sheet
-abbrev pub CanPrint : SittingAnswer → List ℕ → Type 0
-CanPrint (Reported head) sheet = Printable head.alphabet head.rows sheet
-CanPrint (Refused n) sheet = Unit {0}
+abbrev pub CanPrint : Result Head ℕ → List ℕ → Type 0
+CanPrint (Ok head) sheet = Printable head.alphabet head.rows sheet
+CanPrint (Err n) sheet = Unit {0}
 
 -- its text, with the rows as they stand there
-abbrev pub text_from : SittingAnswer → List ℕ → List ℕ
-text_from (Reported head) sheet = report_text head.alphabet head.depth head.first head.second head.rows head.score sheet
-text_from (Refused n) sheet = refusal_text n
+abbrev pub text_from : Result Head ℕ → List ℕ → List ℕ
+text_from (Ok head) sheet = report_text head.alphabet head.depth head.first head.second head.rows head.score sheet
+text_from (Err n) sheet = refusal_text n

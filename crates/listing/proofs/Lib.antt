@@ -4,3 +4,4 @@ pub mod Putting
 pub mod Reporting
 pub mod Onward
 pub mod WholeSheet
+pub mod Decisions

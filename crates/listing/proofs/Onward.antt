@@ -45,7 +45,7 @@ unfolding code_of
 code_older [] a = omega arith
 code_older (b ∷ s) a = omega (arith, code_older s a, ap (λ (p : ℕ). a * p) (pow-suc 8 (length s)))
 
-module _ (k : Desk) (costs : ByKind) (n : ℕ) (l kept : List ℕ) (top : ℕ) (s : List ℕ) (c : Spot) (to : ℕ) (q : CanWrite k costs n l kept top s c to) (more : c.left ≡ 0 → ⊥) where
+module _ {k : Desk} {costs : ByKind} {n : ℕ} {l kept : List ℕ} {top : ℕ} {s : List ℕ} {c : Spot} {to : ℕ} (q : CanWrite k costs n l kept top s c to) (more : c.left ≡ 0 → ⊥) where
   abbrev x : Sitting
   x = sitting_in k (records n l)
 
@@ -76,7 +76,7 @@ module _ (k : Desk) (costs : ByKind) (n : ℕ) (l kept : List ℕ) (top : ℕ) (
   code_small : c.code < c.power
   code_small = rw (q.code_is, q.power_is) (code_lt deepest s (within k n l q.weighable s q.context))
 
-  module _ (w : Way) (from a key code : ℕ) (old cur : List ℕ) (past : ℕ) (t : Onward k n l s (c.left - 1) (c.span / 8) c.power w from a key code old cur past) where
+  module _ {w : Way} {from a key code : ℕ} {old cur : List ℕ} {past : ℕ} (t : Onward k n l s (c.left - 1) (c.span / 8) c.power w from a key code old cur past) where
     child_key : a < k.symbols → key ≡ key_of k.number (older s a)
     child_key lt = t.key_is ∙ rw (step_is ready more) (sym (key_older k.number (after s) s (room ready more) a))
 

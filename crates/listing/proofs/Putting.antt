@@ -1,51 +1,20 @@
--- The ways through the functions that read a decision and put rows, as the code has them. Assumes nothing.
-use Prim.Native.Nat.{ℕ, ◌+◌, ◌-◌, ◌/◌, ◌%◌, ◌≤◌}
+-- The ways through the functions that put rows, as the code has them. Assumes nothing.
+use Prim.Native.Nat.{ℕ, ◌+◌, ◌-◌, ◌≤◌}
 use mathlib.Core.Path.{◌≡◌, refl, sym, ap, ap₂, subst₂, ◌∙◌}
-use mathlib.Core.Bool.{Bool, true, false, not, ◌&&◌}
+use mathlib.Core.Bool.{Bool, true}
 use mathlib.Core.List.{List, [], ◌∷◌, ◌++◌, append-nil}
 use native.Mathlib.Omega.{arith}
-use borrow.Author.Tests.{eq-eqb, ne_eqb}
 use lib.ListN.{length, take, drop, length-append, length-take, drop_of_length-le}
 use lib.Seq.{drop-drop}
-use lib.Dec.{eqb}
-use Rattle.contexts.specs.Sitting.{first, second, eight}
+use Rattle.contexts.specs.Sitting.{eight}
 use Rattle.estimate.specs.Table.{counts_in}
 use Rattle.numbers.specs.Limits.{row_width}
 use Rattle.rows.specs.Rows.{kind_of}
-use Rattle.listing.specs.declared.Way.{Way}
 use Rattle.listing.specs.declared.Plan.{Plan}
-use Rattle.listing.specs.Plans.{own_plan, plan_of}
 use Rattle.listing.specs.Writing.{WroteAt, numbers_if, numbers_here, Roomy}
-use Rattle.listing.proofs.Sheets.{written_none, written_append}
-
--- ---- a decision read back
-
-module _ (w : Way) (mark : ℕ) where
-  pub plan_own : w.joint ≡ false → own_plan w.first w.second (eqb (mark / 3 % 2) 1) (eqb (mark / 6) 1) ≡ plan_of w mark
-  unfolding plan_of
-  plan_own e = rw e
-
-  pub plan_shared : w.joint ≡ true → mark % 3 ≡ 0 → record { shared = true; first = false; second = false; next = record { joint = false; first = false; second = false } } ≡ plan_of w mark
-  unfolding plan_of
-  plan_shared e h = rw (e, eq-eqb (mark % 3) 0 h)
-
-  pub plan_separate : w.joint ≡ true → mark % 3 ≡ 1 → own_plan true true (eqb (mark / 3 % 2) 1) (eqb (mark / 6) 1) ≡ plan_of w mark
-  unfolding plan_of
-  plan_separate e h = rw (e, ne_eqb (mark % 3) 0 (λ z. omega arith), eq-eqb (mark % 3) 1 h)
-
-  pub plan_split : w.joint ≡ true → (mark % 3 ≡ 0 → ⊥) → (mark % 3 ≡ 1 → ⊥)
-      → record { shared = false; first = false; second = false; next = record { joint = true; first = false; second = false } } ≡ plan_of w mark
-  unfolding plan_of
-  plan_split e h g = rw (e, ne_eqb (mark % 3) 0 h, ne_eqb (mark % 3) 1 g)
-
-pub own_plan_is : (m n p q a b c d : Bool) → a ≡ m && not p → b ≡ n && not q → c ≡ m && p → d ≡ n && q
-    → record { shared = false; first = a; second = b; next = record { joint = false; first = c; second = d } } ≡ own_plan m n p q
-own_plan_is m n p q a b c d e f g h = λ i. record { shared = false; first = e i; second = f i; next = record { joint = false; first = g i; second = h i } }
+use Rattle.listing.proofs.Sheets.{written_append}
 
 -- ---- one row, or none
-
-pub if_none : (l : List ℕ) (to : ℕ) (on : Bool) (kind len code : ℕ) (counts : List (List ℕ)) → on ≡ false → WroteAt l l to (numbers_if on kind len code counts) to
-if_none l to on kind len code counts e = rw e (written_none l to)
 
 pub if_long : (on : Bool) (kind len code : ℕ) (counts : List (List ℕ)) → on ≡ true → length (numbers_if on kind len code counts) ≡ row_width
 if_long on kind len code counts e = rw e
@@ -80,17 +49,14 @@ module _ (l : List ℕ) (to : ℕ) (plan : Plan) (len code : ℕ) (counts : List
   all_long : length (numbers_here plan len code counts) ≡ length one + (length two + length three)
   all_long = length-append one (two ++ three) ∙ ap (λ (m : ℕ). length one + m) (length-append two three)
 
-  pub room_one : Roomy (length l) to (length one) counts
+  room_one : Roomy (length l) to (length one) counts
   room_one = record { room = omega (arith, roomy.room, all_long); counted = roomy.counted }
 
   module _ (l₁ : List ℕ) (a : ℕ) (same₁ : length l₁ ≡ length l) (g : WroteAt l l₁ to one a) where
-    pub room_two : Roomy (length l₁) a (length two) counts
+    room_two : Roomy (length l₁) a (length two) counts
     room_two = record { room = omega (arith, roomy.room, all_long, g.past_is); counted = roomy.counted }
 
     module _ (l₂ : List ℕ) (b : ℕ) (same₂ : length l₂ ≡ length l₁) (h : WroteAt l₁ l₂ a two b) where
-      pub room_three : Roomy (length l₂) b (length three) counts
-      room_three = record { room = omega (arith, roomy.room, all_long, g.past_is, h.past_is); counted = roomy.counted }
-
       pub put_all : (l₃ : List ℕ) (r : ℕ) → WroteAt l₂ l₃ b three r → WroteAt l l₃ to (numbers_here plan len code counts) r
       put_all l₃ r f = written_append l l₁ l₃ to a r one (two ++ three) room_one.room g (written_append l₁ l₂ l₃ a b r two three room_two.room h f)
 

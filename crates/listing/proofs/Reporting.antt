@@ -11,7 +11,6 @@ use Rattle.numbers.proofs.Tests.{of_true}
 use Rattle.contexts.specs.Keys.{key_of, desk_of}
 use Rattle.contexts.specs.Sitting.{first, second, Sitting, table, row_in, sum_of}
 use Rattle.contexts.proofs.KeyOrder.{desk_of_key, context_of_key}
-use Rattle.estimate.specs.Trees.{own}
 use Rattle.estimate.specs.Recursion.{Losses, losses}
 use Rattle.estimate.specs.declared.ByKind.{ByKind}
 use Rattle.rows.specs.Members.{gather}
@@ -27,16 +26,16 @@ use Rattle.weighing.specs.Sitting.{sitting_in}
 use Rattle.weighing.specs.Trees.{mark_at, mark_of}
 use Rattle.listing.specs.Plans.{wanted, goes_on, plan_of, here_of}
 use Rattle.weighing.specs.Visit.{leaf_mark}
-use Rattle.listing.specs.Writing.{sheet_for, WroteAt, numbers_here, kept_mark, kept_plan, CanWrite, CanWriteHere, WroteNumbers}
+use Rattle.listing.specs.Writing.{sheet_for, WroteAt, numbers_here, kept_mark, kept_plan, CanWrite, Roomy, WroteNumbers}
 use Rattle.weighing.proofs.Cursor.{within}
 use Rattle.weighing.proofs.Flat.{mark_flat}
-use Rattle.weighing.proofs.Counts.{table_under, table_small, costs_small, absent_flat, absent_losses}
+use Rattle.weighing.proofs.Counts.{table_under, table_small, absent_flat, absent_losses}
 use Rattle.weighing.proofs.Choosing as choosing
 use Rattle.weighing.proofs.Visiting.{held_there}
 use Rattle.listing.proofs.Planning.{wanted_split, wanted_leaf, wanted_stop, goes_deeper}
 use Rattle.listing.proofs.Sheets.{written_append, sheet_append, here_numbers}
 
-module _ (k : Desk) (costs : ByKind) (n : ℕ) (l kept : List ℕ) (top : ℕ) (s : List ℕ) (c : Spot) (to : ℕ) (q : CanWrite k costs n l kept top s c to) where
+module _ {k : Desk} {costs : ByKind} {n : ℕ} {l kept : List ℕ} {top : ℕ} {s : List ℕ} {c : Spot} {to : ℕ} (q : CanWrite k costs n l kept top s c to) where
   abbrev x : Sitting
   x = sitting_in k (records n l)
 
@@ -99,22 +98,16 @@ module _ (k : Desk) (costs : ByKind) (n : ℕ) (l kept : List ℕ) (top : ℕ) (
   pub here_room : to + length (sheet_for x (here_of plan s)) ≤ top
   here_room = omega (arith, here_first c.left, q.room)
 
-  pub can_here : CanWriteHere n l kept costs top c (k.depth - c.left) to
-  can_here =
-      let small = costs_small k n l q.weighable costs q.priced in
-      record {
-        standing = q.weighable.standing;
-        beside = q.decided.beside;
-        small = record { first = omega (arith, small (own first)); second = omega (arith, small (own second)) };
-        roomy = record {
-          room = rw numbers_are here_room;
-          counted = subst (λ (t : List (List ℕ)). sum_of (row_in t first) + sum_of (row_in t second) ≤ most_counted) (sym table_is) (table_small k n l q.weighable s);
-        };
-      }
+  pub can_here :
+      Roomy top to (length (numbers_here (kept_plan n l kept costs c) (k.depth - c.left) c.code (count_table (lookup c.key (records n l))))) (count_table (lookup c.key (records n l)))
+  can_here = record {
+    room = rw numbers_are here_room;
+    counted = subst (λ (t : List (List ℕ)). sum_of (row_in t first) + sum_of (row_in t second) ≤ most_counted) (sym table_is) (table_small k n l q.weighable s);
+  }
 
   -- ---- what their writing gives
 
-  module _ (before after : List ℕ) (r : Step) (g : WroteNumbers n l kept costs before after c (k.depth - c.left) to r) where
+  module _ {before after : List ℕ} {r : Step} (g : WroteNumbers n l kept costs before after c (k.depth - c.left) to r) where
     pub next_is : r.way ≡ plan.next
     next_is = g.way_is ∙ ap (λ (p : Plan). p.next) plan_is
 
@@ -152,8 +145,8 @@ module _ (k : Desk) (costs : ByKind) (n : ℕ) (l kept : List ℕ) (top : ℕ) (
       pub child_room : r.to + length child_rows ≤ top
       child_room = omega (arith, q.room, ap length all_rows, length-append (sheet_for x (here_of plan s)) child_rows, wrote_here.past_is)
 
-      pub finished : length before ≡ top → (cur : List ℕ) (past : ℕ) → WroteAt after cur r.to child_rows past
+      pub finished : length before ≡ top → {cur : List ℕ} {past : ℕ} → WroteAt after cur r.to child_rows past
           → WroteAt before cur to (sheet_for x (wanted k.symbols c.left f c.way s)) past
-      finished long cur past h =
+      finished long {cur} {past} h =
           subst (λ (rows : List ℕ). WroteAt before cur to rows past) (sym all_rows)
           (written_append before after cur to r.to past (sheet_for x (here_of plan s)) child_rows (omega (arith, here_room)) wrote_here h)

@@ -18,7 +18,11 @@ use Rattle.weighing.specs.declared.Desk.{Desk}
 use Rattle.listing.specs.declared.Spot.{Spot}
 use Rattle.weighing.specs.Sitting.{sitting_in, Weighable}
 use Rattle.listing.specs.Plans.{wanted}
-use Rattle.listing.specs.Writing.{sheet_for, WroteAt, rows_from, CanWrite, CanReport, Listed}
+use Rattle.listing.specs.Writing.{sheet_for, WroteAt, rows_from, CanWrite, CanReadMarks, CanReport, Listed}
+use Rattle.contexts.specs.Sitting.{first, second}
+use Rattle.estimate.specs.Trees.{own}
+use Rattle.weighing.specs.Weighs.{Decided}
+use Rattle.weighing.proofs.Counts.{costs_small}
 use Rattle.weighing.proofs.Whole.{root_key}
 
 module _ (k : Desk) (n : ℕ) (l : List ℕ) (w : Weighable k n l) where
@@ -43,6 +47,11 @@ module _ (k : Desk) (n : ℕ) (l : List ℕ) (w : Weighable k n l) where
     power_is = refl;
     room = omega (arith, q.room, ap length root_rows);
   }
+
+  pub root_readable : (kept : List ℕ) → Decided k n l kept → (costs : ByKind) → CostsOf k.weight k.symbols k.n k.m costs → CanReadMarks n kept costs
+  root_readable kept q costs priced =
+      let small = costs_small k n l w costs priced in
+      record { beside = q.beside; small = record { first = omega (arith, small (own first)); second = omega (arith, small (own second)) } }
 
   pub reported : (before after : List ℕ) (past : ℕ) → WroteAt before after 0 (rows_from k n l [] root_spot) past → Listed k n l before after
   reported before after past g = record { sheet = subst (λ (rows : List ℕ). after ≡ rows ++ drop (length rows) before) root_rows (g.sheet ∙ rw zero-add) }

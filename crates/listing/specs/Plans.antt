@@ -5,6 +5,8 @@ use Rattle.estimate.specs.Trees.{shared, own}
 use Rattle.estimate.specs.Recursion.{Losses}
 use Rattle.rows.specs.Members.{Member, member, only_if}
 use Rattle.rows.specs.Walk.{owns, walk}
+use Rattle.weighing.specs.declared.Mark.{Mark}
+use Rattle.weighing.specs.declared.Choice.TheVariants.{Shared, Separate, Split}
 use Rattle.listing.specs.declared.Way.{Way}
 use Rattle.listing.specs.declared.Plan.{Plan}
 
@@ -24,6 +26,17 @@ own_plan m n p q = record {
   second = n && not q;
   next = record { joint = false; first = m && p; second = n && q };
 }
+
+-- the plan that a decision gives
+abbrev pub plan_by : Way → Mark → Plan
+plan_by w m =
+    cond w.joint
+    (elim m.joint [
+      | Shared ↦ record { shared = true; first = false; second = false; next = record { joint = false; first = false; second = false } }
+      | Separate ↦ own_plan true true m.first m.second
+      | Split ↦ record { shared = false; first = false; second = false; next = record { joint = true; first = false; second = false } }
+    ])
+    (own_plan w.first w.second m.first m.second)
 
 -- a decision read back: 0 shared leaf, 1 two separate trees, 2 a split of both; 3 where the first's own tree splits, 6 where the second's does
 unfoldable pub plan_of : Way → ℕ → Plan

@@ -10,7 +10,7 @@ use Rattle.estimate.specs.declared.ByKind.{ByKind}
 use Rattle.rows.specs.Members.{Member}
 use Rattle.rows.specs.Rows.{row_of, report_of, sheet_of, kind_of}
 use Rattle.records.specs.Records.{records, keys, lookup}
-use Rattle.records.specs.Held.{rank, held, count_table, Standing}
+use Rattle.records.specs.Held.{rank, held, count_table}
 use Rattle.weighing.specs.declared.Desk.{Desk}
 use Rattle.listing.specs.declared.Plan.{Plan}
 use Rattle.listing.specs.declared.Spot.{Spot}
@@ -59,6 +59,11 @@ pub record CanWrite (k : Desk) (costs : ByKind) (n : ℕ) (l kept : List ℕ) (t
   pub power_is : c.power ≡ 8 ^ length s
   pub room : to + length (rows_from k n l s c) ≤ top
 
+-- decisions can be read under every key: there is one beside each record, and where none is held, a leaf that costs this gives it
+pub record CanReadMarks (n : ℕ) (kept : List ℕ) (costs : ByKind) : Type 0 where
+  pub beside : n ≤ length kept
+  pub small : Small costs
+
 -- the decision under a key: the one kept beside its record, or that of a leaf that costs this
 abbrev pub kept_mark : ℕ → List ℕ → List ℕ → ByKind → ℕ → ℕ
 kept_mark n l kept costs key = cond (held key (records n l)) (get_or kept (rank key (keys (records n l))) 0) (leaf_mark costs)
@@ -67,13 +72,7 @@ kept_mark n l kept costs key = cond (held key (records n l)) (get_or kept (rank 
 abbrev pub kept_plan : ℕ → List ℕ → List ℕ → ByKind → Spot → Plan
 kept_plan n l kept costs c = plan_of c.way (kept_mark n l kept costs c.key)
 
--- the rows of one context, by its numbers: what their writing asks, and what it gives
-pub record CanWriteHere (n : ℕ) (l kept : List ℕ) (costs : ByKind) (top : ℕ) (c : Spot) (len to : ℕ) : Type 0 where
-  pub standing : Standing n l
-  pub beside : n ≤ length kept
-  pub small : Small costs
-  pub roomy : Roomy top to (length (numbers_here (kept_plan n l kept costs c) len c.code (count_table (lookup c.key (records n l))))) (count_table (lookup c.key (records n l)))
-
+-- the rows of one context, by its numbers: what their writing gives
 pub record WroteNumbers (n : ℕ) (l kept : List ℕ) (costs : ByKind) (before after : List ℕ) (c : Spot) (len to : ℕ) (r : Step) : Type 0 where
   pub way_is : r.way ≡ (kept_plan n l kept costs c).next
   pub written : WroteAt before after to (numbers_here (kept_plan n l kept costs c) len c.code (count_table (lookup c.key (records n l)))) r.to

@@ -2,5 +2,4 @@ pub mod Laws
 pub mod Terms
 pub mod Squaring
 pub mod Twos
-pub mod Filling
 pub mod Settled

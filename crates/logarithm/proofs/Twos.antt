@@ -2,13 +2,11 @@
 use mathlib.Core.Path.{◌≡◌, refl, sym, ap, ◌∙◌}
 use mathlib.Core.List.{List}
 use Prim.Native.Nat.{ℕ, zero, suc, ◌+◌, ◌*◌, ◌/◌, ◌%◌, ◌^◌, ◌≤◌, ◌<◌}
-use native.Mathlib.Nat.{le_trans, le_of_eq, lt_of_le_of_lt, lt_of_not-le, not-le_of_lt, zero-mul, one-mul, mul-one, mul_left_comm, mul-le-mul, mul-le-mul_right, div-one, div-le_self, div-div-eq-div-mul, pow-succ'}
+use native.Mathlib.Nat.{zero-mul, mul-one, mul_left_comm, mul-le-mul, div-one, div-div-eq-div-mul, pow-succ'}
 use native.Mathlib.Omega.{arith}
-use lib.Dec.{lit<}
 use lib.Count.{count_trailing_zeros, under}
 use lib.ListN.{length, get_or}
-use lib.Pow.{pow_pos, pow_mono}
-use Rattle.numbers.specs.Limits.{most_counted}
+use lib.Pow.{pow_pos}
 use Rattle.logarithm.specs.Logarithm.{L}
 use Rattle.logarithm.specs.Table.{AreLogs}
 use Rattle.logarithm.proofs.Laws.{L_double}
@@ -48,30 +46,18 @@ L_doubled q (suc t) h =
     let e : q * 2 ^ suc t ≡ 2 * (q * 2 ^ t) = ap (λ (x : ℕ). q * x) (pow-succ' 2 t) ∙ mul_left_comm q 2 (2 ^ t) in
     rw e (omega (arith, more, L_doubled q t h))
 
--- what the code asks of a number's twos
-pub record Parts (n t : ℕ) : Type 0 where
-  pub t_small : t < 32
-  pub odd_small : n / 2 ^ t ≤ n
-  pub by_odd : L n ≡ L (n / 2 ^ t) + 1024 * t
-
 some_odd : (q t n : ℕ) → q * 2 ^ t ≡ n → ¬ (n ≡ 0) → 1 ≤ q
 some_odd zero t n e h = absurd (h (sym e ∙ zero-mul (2 ^ t)))
 some_odd (suc q) t n e h = omega arith
 
-pub parts : (n : ℕ) → ¬ (n ≡ 0) → n ≤ most_counted → Parts n (count_trailing_zeros 32 n)
-parts n h l =
+-- L of a number by that of its odd part
+by_odd : (n : ℕ) → ¬ (n ≡ 0) → let t = count_trailing_zeros 32 n in L n ≡ L (n / 2 ^ t) + 1024 * t
+by_odd n h =
     let t = count_trailing_zeros 32 n in
-    let q = n / 2 ^ t in
-    let e : q * 2 ^ t ≡ n = parted 32 n in
-    let some : 1 ≤ q = some_odd q t n e h in
-    let twos : 2 ^ t ≤ n = le_trans (le_of_eq (sym (one-mul (2 ^ t)))) (le_trans (mul-le-mul_right (2 ^ t) some) (le_of_eq e)) in
-    record {
-      t_small = lt_of_not-le (λ (g : 32 ≤ t). not-le_of_lt (lt_of_le_of_lt l (lit< tt)) (le_trans (pow_mono g) twos));
-      odd_small = div-le_self n (2 ^ t);
-      by_odd = sym (ap L e) ∙ L_doubled q t some;
-    }
+    let e : n / 2 ^ t * 2 ^ t ≡ n = parted 32 n in
+    sym (ap L e) ∙ L_doubled (n / 2 ^ t) t (some_odd (n / 2 ^ t) t n e h)
 
--- so L of a number can be read where that of its odd part is lent
-pub by_lent : (logs : List ℕ) (n : ℕ) → AreLogs logs → ¬ (n ≡ 0) → n ≤ most_counted → n / 2 ^ count_trailing_zeros 32 n < length logs
+-- .. so it can be read where that is lent
+pub by_lent : (logs : List ℕ) (n : ℕ) → AreLogs logs → ¬ (n ≡ 0) → n / 2 ^ count_trailing_zeros 32 n < length logs
     → get_or logs (n / 2 ^ count_trailing_zeros 32 n) 0 + 1024 * count_trailing_zeros 32 n ≡ L n
-by_lent logs n lent h l r = let t = count_trailing_zeros 32 n in ap (λ (x : ℕ). x + 1024 * t) (lent.right (n / 2 ^ t) r) ∙ sym (parts n h l).by_odd
+by_lent logs n lent h r = let t = count_trailing_zeros 32 n in ap (λ (x : ℕ). x + 1024 * t) (lent.right (n / 2 ^ t) r) ∙ sym (by_odd n h)

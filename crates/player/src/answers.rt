@@ -1,99 +1,93 @@
 // The answers as lines on standard output.
-use calls::{ChartAnswer, Ending, Fed, Refusal, RoomLeft, Verdict, number_of};
-use chart::Chart;
-use printing::magnitude;
+use calls::{Fed, Reported};
+use chart::{Chart, Point};
+use std::fmt;
 
-// What cannot be written is left out, and the play goes on.
-pub(crate) fn say(rt: &impl Print, text: &[u8]) {
-    rt.write_all(text).is_ok();
+// What an accepted call answers.
+#[derive(Drop)]
+pub(crate) enum Told {
+    Done,
+    Room(u32),
+    Fed(Fed),
+    Chart(Chart),
+    Report(Reported),
 }
 
-pub(crate) fn say_number(rt: &impl Print, number: u64) {
-    rt.print(number).is_ok();
-}
+// A refusal by its number in the documents: a call's or a making's, of which the line tells no more.
+#[derive(Drop)]
+pub(crate) struct Refused(u32);
 
-pub(crate) fn say_score(rt: &impl Print, score: i64) {
-    if score < 0 {
-        say(rt, b"-");
-    }
-    say_number(rt, magnitude(score));
-}
-
-// A refusal by its number in the documents.
-pub(crate) fn say_refused(rt: &impl Print, number: u32) {
-    say(rt, b"refused ");
-    say_number(rt, number as u64);
-    say(rt, b"\n");
-}
-
-pub(crate) fn say_refusal(rt: &impl Print, why: Refusal) {
-    say_refused(rt, number_of(why));
-}
-
-pub(crate) fn say_verdict(rt: &impl Print, verdict: Verdict) {
-    match verdict {
-        Verdict::Done => say(rt, b"done\n"),
-        Verdict::Refused(why) => say_refusal(rt, why),
+impl From<calls::Refusal> for Refused {
+    fn from(why: calls::Refusal) -> Refused {
+        Refused(u32::from(why))
     }
 }
 
-pub(crate) fn say_room(rt: &impl Print, room: RoomLeft) {
-    match room {
-        RoomLeft::Contexts(left) => {
-            say(rt, b"room ");
-            say_number(rt, left as u64);
-            say(rt, b"\n");
+impl From<store::Refusal> for Refused {
+    fn from(why: store::Refusal) -> Refused {
+        Refused(u32::from(why))
+    }
+}
+
+impl fmt::Display for Refused {
+    fn fmt<W: fmt::Write>(&self, f: &mut fmt::Formatter<W>) -> fmt::Result {
+        write!(f, "refused {}", self.0)
+    }
+}
+
+impl fmt::Display for Told {
+    fn fmt<W: fmt::Write>(&self, f: &mut fmt::Formatter<W>) -> fmt::Result {
+        match self {
+            Told::Done => f.write_str("done"),
+            Told::Room(left) => write!(f, "room {left}"),
+            Told::Fed(fed) => write_fed(f, *fed),
+            Told::Chart(chart) => write_chart(f, *chart),
+            Told::Report(Reported { rows, score }) => write!(f, "report {rows} {score}"),
         }
-        RoomLeft::Refused(why) => say_refusal(rt, why),
     }
 }
 
-pub(crate) fn say_fed(rt: &impl Print, fed: Fed) {
-    say(rt, b"fed ");
-    say_number(rt, fed.accepted as u64);
-    let ending = fed.ending;
+fn write_fed<W: fmt::Write>(f: &mut fmt::Formatter<W>, fed: Fed) -> fmt::Result {
+    let Fed { accepted, ending } = fed;
     match ending {
-        Ending::Whole => say(rt, b" whole\n"),
-        Ending::Refused(why) => {
-            say(rt, b" ");
-            say_refusal(rt, why);
+        Ok(()) => write!(f, "fed {accepted} whole"),
+        Err(why) => {
+            let refused = Refused::from(why);
+            write!(f, "fed {accepted} {refused}")
         }
     }
 }
 
-pub(crate) fn say_chart(rt: &impl Print, answer: ChartAnswer) {
-    match answer {
-        ChartAnswer::Answered(chart) => say_charted(rt, chart),
-        ChartAnswer::Refused(why) => say_refusal(rt, why),
-    }
-}
-
-fn say_charted(rt: &impl Print, chart: Chart) {
+fn write_chart<W: fmt::Write>(f: &mut fmt::Formatter<W>, chart: Chart) -> fmt::Result {
     match chart {
-        Chart::Neither => say(rt, b"chart neither"),
-        Chart::First(share) => {
-            say(rt, b"chart first");
-            say_bits(rt, share);
-        }
-        Chart::Second(share) => {
-            say(rt, b"chart second");
-            say_bits(rt, share);
-        }
-        Chart::Both(point) => {
-            say(rt, b"chart both");
-            say_bits(rt, point.first);
-            say_bits(rt, point.second);
-            say_bits(rt, point.gap);
+        Chart::Neither => f.write_str("chart neither"),
+        Chart::First(share) => write!(f, "chart first{}", Bits(share)),
+        Chart::Second(share) => write!(f, "chart second{}", Bits(share)),
+        Chart::Both(Point { first, second, gap }) => {
+            write!(f, "chart both{}{}{}", Bits(first), Bits(second), Bits(gap))
         }
     }
-    say(rt, b"\n");
 }
 
 // A blank and the 64 bits of a float. What is no number has no bits to show, and no answer holds it.
-fn say_bits(rt: &impl Print, x: f64) {
-    if x == x {
-        say(rt, b" ");
-        let bits = f64::to_bits(x);
-        print!(rt; "{bits:016x}").is_ok();
+#[derive(Drop)]
+struct Bits(f64);
+
+impl fmt::Display for Bits {
+    fn fmt<W: fmt::Write>(&self, f: &mut fmt::Formatter<W>) -> fmt::Result {
+        if self.0.is_nan() {
+            return Ok(());
+        }
+        let bits = self.0.to_bits();
+        write!(f, " {bits:016x}")
     }
+}
+
+// Tells an answer. What cannot be written is left out, and the play goes on.
+pub(crate) fn say(rt: &impl Print, answer: Result<Told, Refused>) {
+    let said = match answer {
+        Ok(told) => rt.println(told),
+        Err(refused) => rt.println(refused),
+    };
+    said.is_ok();
 }

@@ -1,92 +1,71 @@
 // The numbers of a script: runs of decimal digits. Every other byte only parts them.
-ghost use Rattle.std.specs.Prelude.{◌≡◌, ◌≤◌, length, take};
+ghost use Rattle.std.specs.Prelude.{◌≤◌, length};
+ghost use Rattle.std.specs.Iterator.{at_most};
 
-// A number that was read, and the place after it.
-#[derive(Clone, Copy)]
-pub struct Number {
-    pub value: u32,
-    pub next: usize,
+// A script, as far as it has not been read.
+#[derive(Drop)]
+pub(crate) struct Script<'a> {
+    rest: &'a [u8],
 }
 
-const LARGEST: u64 = 4294967295;
+impl<'a> Script<'a> {
+    pub(crate) fn new(text: &'a [u8]) -> Script<'a> {
+        Script { rest: text }
+    }
 
-const NO_DIGIT: u32 = 10;
+    // The next number; 0 where there is none.
+    pub(crate) fn number(&mut self) -> u32
+        ensures { length self.new.rest.now ≤ length self.old.rest.now }
+    {
+        self.next().unwrap_or(0)
+    }
 
-// The first digit from a place on; the script's end where there is none.
-pub(crate) fn first_digit(script: &[u8], at: usize) -> usize {
-    let mut i = at;
-    while i < script.len() {
-        if digit_of(script[i]) < NO_DIGIT {
-            return i;
+    // As many numbers as a call has.
+    pub(crate) fn numbers<const N: usize>(&mut self) -> [u32; N]
+        ensures { length self.new.rest.now ≤ length self.old.rest.now }
+    {
+        let mut numbers = [0; N];
+        for number in numbers.iter_mut() {
+            *number = self.number();
         }
-        i += 1;
+        numbers
     }
-    i
-}
 
-// The next number from a place on; 0 where there is none.
-pub(crate) fn number_at(script: &[u8], at: usize) -> Number {
-    let mut value: u32 = 0;
-    let mut i = first_digit(script, at);
-    while i < script.len() {
-        let digit = digit_of(script[i]);
-        if NO_DIGIT <= digit {
-            return Number { value, next: i };
+    // Reads a symbol for each byte of a part.
+    pub(crate) fn symbols(&mut self, symbols: &mut [u8])
+        ensures { length self.new.rest.now ≤ length self.old.rest.now }
+    {
+        for symbol in symbols {
+            // Symbols above a byte are above every alphabet, and so is the largest byte.
+            *symbol = u8::try_from(self.number()).unwrap_or(u8::MAX);
         }
-        value = with_digit(value, digit);
-        i += 1;
     }
-    Number { value, next: i }
 }
 
-// What a digit's byte stands for.
-fn digit_of(byte: u8) -> u32 {
-    if byte < b'0' {
-        return NO_DIGIT;
+impl Iterator for Script<'_> {
+    type Item = u32;
+
+    // Nothing is read twice.
+    ghost next_gives = { λ s _ t. length t.rest.now ≤ length s.rest.now };
+
+    // Every number has a digit.
+    ghost remaining = { λ s. at_most (length s.rest.now) };
+
+    fn next(&mut self) -> Option<u32> {
+        let first = self.rest.iter().position(u8::is_ascii_digit)?;
+        let text = &self.rest[first..];
+        let digits = text.iter().take_while(|byte| byte.is_ascii_digit()).count();
+        self.rest = &text[digits..];
+        Some(number_of(&text[..digits]))
     }
-    if b'9' < byte {
-        return NO_DIGIT;
-    }
-    (byte - b'0') as u32
 }
 
-// A number with one more digit. No number of a script is above the largest of 32 bits.
-fn with_digit(value: u32, digit: u32) -> u32 {
-    let longer = value as u64 * 10 + digit as u64;
-    if LARGEST < longer {
-        return 4294967295;
-    }
-    longer as u32
-}
-
-// Reads a symbol for each byte of a part, and answers the place after the last.
-pub(crate) fn symbols_at(script: &[u8], at: usize, symbols: &mut [u8]) -> usize {
-    let mut next = at;
-    let mut i: usize = 0;
-    while i < symbols.len() {
-        let number = number_at(script, next);
-        symbols[i] = symbol_of(number.value);
-        next = number.next;
-        i += 1;
-    }
-    next
-}
-
-// A symbol in a byte. Those above a byte are above every alphabet, and so is the largest byte.
-fn symbol_of(number: u32) -> u8 {
-    if number < 255 {
-        return number as u8;
-    }
-    255
-}
-
-// As many numbers as are wanted, or all there are.
-pub(crate) fn within(wanted: usize, numbers: &[u32]) -> usize
-    ensures at_most { result ≤ length numbers.now }
-    ensures taken { result ≡ length (take result numbers.now) }
-{
-    if numbers.len() < wanted {
-        return numbers.len();
-    }
-    wanted
+// What digits stand for. No number of a script is above the largest of 32 bits.
+fn number_of(digits: &[u8]) -> u32 {
+    digits
+        .iter()
+        .filter_map(|digit| char::from(*digit).to_digit(10))
+        .fold(0, |value: u32, digit| {
+            value.saturating_mul(10).saturating_add(digit)
+        })
 }

@@ -1,11 +1,8 @@
 // The report call: its sheet, the rows as they stand there, and what changed outside them.
-ghost use Rattle.std.specs.Prelude.{◌≤◌};
-
-use crate::answers::{say, say_number, say_refusal, say_score};
-use crate::scan::{number_at, within};
-use calls::ReportAnswer;
+use crate::answers::{Told, say};
 use numbers::ROW_WIDTH;
 use report::report;
+use std::fmt;
 
 // What each number of the sheet is before a report.
 const BLANK: u32 = 4294967295;
@@ -13,121 +10,67 @@ const BLANK: u32 = 4294967295;
 // The longest sheet: 512 rows.
 const SHEET_NUMBERS: usize = 5632;
 
-// Reads a report's numbers, and has a blank sheet for it.
-pub(crate) fn play_report(rt: &impl Print, script: &[u8], at: usize, store: &[u32]) -> usize {
-    let desk = number_at(script, at);
-    let length = number_at(script, desk.next);
-    let place = number_at(script, length.next);
+// Has a blank sheet for a report, and lends the part of it that the call names.
+pub(crate) fn play_report(rt: &impl Print, [desk, length, place]: [u32; 3], store: &[u32]) {
     let mut sheet = [BLANK; SHEET_NUMBERS];
-    report_on_part(
-        rt,
-        store,
-        desk.value,
-        &mut sheet,
-        length.value as usize,
-        place.value,
-    );
-    place.next
+    let part = &mut sheet[..SHEET_NUMBERS.min(length as usize)];
+    report_on(rt, store, desk, part, place);
 }
 
-// Lends the report the part of the sheet that the call names.
-fn report_on_part(
-    rt: &impl Print,
-    store: &[u32],
-    desk: u32,
-    sheet: &mut [u32],
-    length: usize,
-    place: u32,
-) {
-    let many = within(length, sheet);
-    report_on(rt, store, desk, &mut sheet[..many], place);
-}
-
+// What a report is given stays as `report` takes it.
 fn report_on(rt: &impl Print, store: &[u32], desk: u32, sheet: &mut [u32], place: u32) {
     match report(store, desk, sheet, place) {
-        ReportAnswer::Rows(rows, score) => {
-            say(rt, b"report ");
-            say_number(rt, rows as u64);
-            say(rt, b" ");
-            say_score(rt, score);
-            say(rt, b"\n");
-            say_rows(rt, sheet, place as usize, rows as usize);
-            say_outside(rt, sheet, place as usize, rows as usize);
+        Ok(reported) => {
+            say(rt, Ok(Told::Report(reported)));
+            let rows = reported.rows as usize;
+            say_rows(rt, sheet, place as usize, rows);
+            say_outside(rt, sheet, place as usize, rows);
         }
-        ReportAnswer::Refused(why) => {
-            say_refusal(rt, why);
+        Err(why) => {
+            say(rt, Err(why.into()));
             say_outside(rt, sheet, 0, 0);
         }
     }
 }
 
-// A line for each row, from a row's place on, as far as the sheet has whole rows.
+// A line for each row, from a row's place on, as far as the sheet has whole rows. The sheet and where its rows stand stay
+// three, here and below: no plainer for three functions of a few lines.
 fn say_rows(rt: &impl Print, sheet: &[u32], place: usize, rows: usize) {
-    let mut k: usize = 0;
-    let whole = sheet.len() / ROW_WIDTH;
-    while k < rows {
-        if whole <= place {
-            return;
-        }
-        if whole - place <= k {
-            return;
-        }
-        let at = (place + k) * ROW_WIDTH;
-        say_row(rt, &sheet[at..at + ROW_WIDTH]);
-        k += 1;
+    for row in sheet.chunks_exact(ROW_WIDTH).skip(place).take(rows) {
+        rt.println(Row(row)).is_ok();
     }
 }
 
 // The numbers of a row, parted by blanks.
-fn say_row(rt: &impl Print, row: &[u32]) {
-    let mut i: usize = 0;
-    while i < row.len() {
-        if 0 < i {
-            say(rt, b" ");
-        }
-        say_wide(rt, row[i]);
-        i += 1;
-    }
-    say(rt, b"\n");
-}
+#[derive(Drop)]
+struct Row<'a>(&'a [u32]);
 
-fn say_wide(rt: &impl Print, number: u32) {
-    say_number(rt, number as u64);
+impl fmt::Display for Row<'_> {
+    fn fmt<W: fmt::Write>(&self, f: &mut fmt::Formatter<W>) -> fmt::Result {
+        for (i, number) in self.0.iter().enumerate() {
+            if 0 < i {
+                f.write_str(" ")?;
+            }
+            write!(f, "{number}")?;
+        }
+        Ok(())
+    }
 }
 
 // A line where numbers outside the rows have changed; it must never be seen.
 fn say_outside(rt: &impl Print, sheet: &[u32], place: usize, rows: usize) {
     let changed = changed_outside(sheet, place, rows);
     if 0 < changed {
-        say(rt, b"outside ");
-        say_number(rt, changed as u64);
-        say(rt, b"\n");
+        println!(rt; "outside {changed}").is_ok();
     }
 }
 
 // How many numbers outside the rows are not blank.
 fn changed_outside(sheet: &[u32], place: usize, rows: usize) -> usize {
-    let mut changed: usize = 0;
-    let mut i: usize = 0;
-    while i < sheet.len() {
-        changed += changed_at(i / ROW_WIDTH, sheet[i], place, rows);
-        i += 1;
-    }
-    changed
-}
-
-// 1 for a number that is not blank in a row outside those from a place on, else 0.
-fn changed_at(row: usize, number: u32, place: usize, rows: usize) -> usize
-    ensures { result ≤ 1 }
-{
-    if number == BLANK {
-        return 0;
-    }
-    if row < place {
-        return 1;
-    }
-    if row - place < rows {
-        return 0;
-    }
-    1
+    let reported = place..place.saturating_add(rows);
+    sheet
+        .iter()
+        .enumerate()
+        .filter(|(i, number)| **number != BLANK && !reported.contains(&(i / ROW_WIDTH)))
+        .count()
 }

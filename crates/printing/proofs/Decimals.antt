@@ -1,14 +1,17 @@
--- Decimal digits: one digit, or those of the tenth and then the last. Assumes nothing.
-use Prim.Native.Nat.{ℕ, zero, suc, ◌/◌, ◌%◌, ◌<◌, ◌≤◌}
+-- Decimal digits: one digit, or those of the tenth and then the last, which is what std prints of a number. Assumes nothing.
+use Prim.Native.Nat.{ℕ, zero, suc, ◌/◌, ◌%◌, ◌^◌, ◌<◌, ◌≤◌}
 use native.Mathlib.Omega.{arith}
 use native.Mathlib.Decide.{dec_le}
 use mathlib.Core.Path.{◌≡◌, sym, ap, ◌∙◌}
 use mathlib.Core.List.{List, [], ◌∷◌, ◌++◌}
-use lib.ListN.{length}
+use lib.IntN.{ℤ, pos, negsuc}
 use borrow.Author.Tests.{lt-ltb, le-ltb}
-use Rattle.printing.specs.Text.{digit, spelled, decimal}
-use Rattle.placing.specs.Placing.{HasRoom, Puts}
-use Rattle.placing.proofs.Laws.{room_front, room_back, puts_then}
+use mir.Syntax.{w64}
+use mir.Val.{SFits, to_z, of_z}
+use mir.Facts.{to_z-of_z}
+use Rattle.std.specs.Fmt.{decimal as std_decimal, signed_decimal}
+use Rattle.std.proofs.lemmas.Fmt.{decimal_from_appends, length-decimal-le_succ}
+use Rattle.printing.specs.Text.{minus, digit, spelled, decimal, signed}
 
 spelled_small : (k n : ℕ) → n < 10 → spelled (suc k) n ≡ digit n ∷ []
 unfolding spelled
@@ -33,23 +36,15 @@ decimal_small n h = spelled_small n n h
 pub decimal_more : (n : ℕ) → 10 ≤ n → decimal n ≡ decimal (n / 10) ++ (digit (n % 10) ∷ [])
 decimal_more n h = spelled_more n n h ∙ ap (λ (l : List ℕ). l ++ (digit (n % 10) ∷ [])) (spelled_enough n (suc (n / 10)) (n / 10) (omega arith) (omega arith))
 
--- ---- the digits of n, as they are put
+-- what std prints of a number
+pub std_digits : (n : ℕ) → n < 2 ^ 64 → std_decimal n ≡ decimal n
+std_digits n h =
+    sym (decimal_from_appends spelled (record { one = spelled_small; more = spelled_more }) (suc n) n h (omega (arith, length-decimal-le_succ n h)))
 
-module _ (n at : ℕ) (a : List ℕ) (room : HasRoom (decimal n) at a) where
-  module _ (low : n < 10) (d : ℕ) where
-    pub room_small : HasRoom (d ∷ []) at a
-    room_small = omega (arith, ap length (decimal_small n low))
-
-    pub puts_small : d ≡ digit n → (b : List ℕ) (r : ℕ) → Puts (d ∷ []) at a b r → Puts (decimal n) at a b r
-    puts_small e b r put = rw (decimal_small n low, ← e) put
-
-  module _ (high : 10 ≤ n) where
-    pub room_tenth : HasRoom (decimal (n / 10)) at a
-    room_tenth = room_front (decimal n) (decimal (n / 10)) (digit (n % 10) ∷ []) (decimal_more n high) at a room
-
-    module _ (b : List ℕ) (r : ℕ) (tenth : Puts (decimal (n / 10)) at a b r) (d : ℕ) where
-      pub room_last : HasRoom (d ∷ []) r b
-      room_last = room_back (decimal n) (decimal (n / 10)) (digit (n % 10) ∷ []) (decimal_more n high) at a room b r tenth
-
-      pub puts_last : d ≡ digit (n % 10) → (c : List ℕ) (s : ℕ) → Puts (d ∷ []) r b c s → Puts (decimal n) at a c s
-      puts_last e c s last = puts_then (decimal n) (decimal (n / 10)) (digit (n % 10) ∷ []) (decimal_more n high) at a room b r tenth c s (rw e at last)
+-- .. and of one with a sign, as the machine reads it
+pub std_signed : (z : ℤ) → SFits w64 z → signed_decimal (to_z w64 (of_z w64 z)) ≡ signed z
+std_signed z f = ap signed_decimal (to_z-of_z f) ∙ printed z f
+  where
+    printed : (y : ℤ) → SFits w64 y → signed_decimal y ≡ signed y
+    printed (pos n) g = std_digits n (omega (arith, g.sfits))
+    printed (negsuc n) g = ap (λ (l : List ℕ). minus ∷ l) (std_digits (suc n) (omega (arith, g.sfits)))

@@ -1,9 +1,7 @@
 -- How long texts are at most: a number of 32 bits has ten digits, one of 64 bits with its sign twenty bytes. Assumes nothing.
-use Prim.Native.Nat.{ℕ, zero, suc, ◌+◌, ◌*◌, ◌/◌, ◌%◌, ◌^◌, ◌<◌, ◌≤◌}
+use Prim.Native.Nat.{ℕ, zero, suc, ◌+◌, ◌*◌, ◌^◌, ◌<◌, ◌≤◌}
 use native.Mathlib.Omega.{arith}
-use native.Mathlib.Nat.{pow-suc, suc-mul, lt_of_lt_of_le, lt_of_le_of_lt}
-use native.Mathlib.Decide.{dec_le}
-use mathlib.Core.Path.{ap, ◌∙◌}
+use native.Mathlib.Nat.{suc-mul, lt_of_lt_of_le, lt_of_le_of_lt}
 use mathlib.Core.List.{List, [], ◌∷◌, ◌++◌, map}
 use lib.Dec.{lit≤, lit<}
 use lib.IntN.{ℤ, pos, negsuc}
@@ -12,29 +10,25 @@ use lib.Seq.{get_or-drop}
 use mir.Syntax.{w64}
 use mir.Val.{SFits}
 use Rattle.numbers.specs.Limits.{row_width}
-use Rattle.printing.specs.Text.{ascii, space, digit, decimal, signed, line_of, head_text, row_text, row_at, rows_text, report_text, refusal_text}
+use Rattle.printing.specs.Text.{ascii, space, decimal, signed, line_of, head_text, row_text, row_at, rows_text, report_text, refusal_text}
 use Rattle.printing.specs.Putting.{text_bytes, Printable}
-use Rattle.printing.proofs.Decimals.{decimal_small, decimal_more}
+use Rattle.std.proofs.lemmas.Fmt.{length-decimal-le}
+use Rattle.printing.proofs.Decimals.{std_digits}
 
 -- ---- a number
 
-decimal_long : (k n : ℕ) → n < 10 ^ suc k → length (decimal n) ≤ suc k
-decimal_long zero n h = omega (arith, ap length (decimal_small n (omega arith)))
-decimal_long (suc k) n h = elim (dec_le 10 n) [
-  | yes m ↦
-      let low : n / 10 < 10 ^ suc k = omega (arith, pow-suc 10 (suc k)) in
-      omega (arith, decimal_long k (n / 10) low, ap length (decimal_more n m) ∙ length-append (decimal (n / 10)) (digit (n % 10) ∷ []))
-  | no m ↦ omega (arith, ap length (decimal_small n (omega arith)))
-]
+digits_long : (k n : ℕ) → 0 < k → n < 10 ^ k → n < 2 ^ 64 → length (decimal n) ≤ k
+digits_long k n p h w = rw (← std_digits n w) (length-decimal-le k n p h w)
 
 -- 32 bits
 number_long : (n : ℕ) → n < 2 ^ 32 → length (decimal n) ≤ 10
-number_long n h = decimal_long 9 n (lt_of_lt_of_le h (lit≤ tt))
+number_long n h = digits_long 10 n (lit< tt) (lt_of_lt_of_le h (lit≤ tt)) (lt_of_lt_of_le h (lit≤ tt))
 
 -- 64 bits with a sign
 signed_long : (z : ℤ) → SFits w64 z → length (signed z) ≤ 20
-signed_long (pos n) f = omega (arith, decimal_long 18 n (lt_of_lt_of_le f.sfits (lit≤ tt)))
-signed_long (negsuc n) f = omega (arith, decimal_long 18 (suc n) (lt_of_le_of_lt f.sfits (lit< tt)))
+signed_long (pos n) f = omega (arith, digits_long 19 n (lit< tt) (lt_of_lt_of_le f.sfits (lit≤ tt)) (lt_of_lt_of_le f.sfits (lit≤ tt)))
+signed_long (negsuc n) f =
+    omega (arith, digits_long 19 (suc n) (lit< tt) (lt_of_le_of_lt f.sfits (lit< tt)) (lt_of_le_of_lt f.sfits (lit< tt)))
 
 -- ---- a line of numbers, each of at most w bytes
 

@@ -1,5 +1,4 @@
 pub mod Decimals
-pub mod Negative
 pub mod Lines
 pub mod Reports
 pub mod Lengths

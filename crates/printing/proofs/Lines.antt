@@ -41,10 +41,10 @@ pub record Begun (ns : List ℕ) (z : ℤ) (at : ℕ) (a : List ℕ) (i : ℕ) (
   pub so_far : Puts (parted (take i ns)) at a b next
 
 module _ {ns : List ℕ} {z : ℤ} {at : ℕ} {a : List ℕ} {i : ℕ} {b : List ℕ} {next : ℕ} (begun : Begun ns z at a i b next) where
-  -- another number
-  module _ (more : i < length ns) (n : ℕ) (e : n ≡ get_or ns i 0) where
+  -- another number, whose text is t
+  module _ (more : i < length ns) (t : List ℕ) (e : t ≡ decimal (get_or ns i 0)) where
     number : List ℕ
-    number = decimal n ++ (space ∷ [])
+    number = t ++ (space ∷ [])
 
     one_more : parted (take (i + 1) ns) ≡ parted (take i ns) ++ number
     unfolding number
@@ -62,38 +62,42 @@ module _ {ns : List ℕ} {z : ℤ} {at : ℕ} {a : List ℕ} {i : ℕ} {b : List
     number_room : HasRoom number next b
     number_room = room_back _ _ _ one_more at a beginning b next begun.so_far
 
-    pub room_number : HasRoom (decimal n) next b
+    pub room_number : HasRoom t next b
     unfolding number
-    room_number = room_front number (decimal n) (space ∷ []) refl next b number_room
+    room_number = room_front number t (space ∷ []) refl next b number_room
 
-    module _ (c : List ℕ) (end : ℕ) (put : Puts (decimal n) next b c end) where
+    module _ (c : List ℕ) (end : ℕ) (put : Puts t next b c end) where
       pub room_blank : HasRoom (space ∷ []) end c
       unfolding number
-      room_blank = room_back number (decimal n) (space ∷ []) refl next b number_room c end put
+      room_blank = room_back number t (space ∷ []) refl next b number_room c end put
 
       pub puts_number : (d : List ℕ) (s : ℕ) → Puts (space ∷ []) end c d s → Puts (parted (take (i + 1) ns)) at a d s
       unfolding number
       puts_number d s mark =
-          puts_then _ _ _ one_more at a beginning b next begun.so_far d s (puts_then number (decimal n) (space ∷ []) refl next b number_room c end put d s mark)
+          puts_then _ _ _ one_more at a beginning b next begun.so_far d s (puts_then number t (space ∷ []) refl next b number_room c end put d s mark)
 
-  -- no other; the last number comes as the machine reads it
-  module _ (done : length ns ≤ i) (y : ℤ) (e : y ≡ z) where
-    rest : line_of (map pos ns ++ (z ∷ [])) ≡ parted (take i ns) ++ ending y
+  -- no other; t is the text of the last number
+  module _ (done : length ns ≤ i) (t : List ℕ) (e : t ≡ signed z) where
+    last : List ℕ
+    last = t ++ (line_feed ∷ [])
+
+    rest : line_of (map pos ns ++ (z ∷ [])) ≡ parted (take i ns) ++ last
+    unfolding ending last
     rest = line_parted ns z ∙ rw (take_all i ns done, e)
 
-    end_room : HasRoom (ending y) next b
+    end_room : HasRoom last next b
     end_room = room_back _ _ _ rest at a begun.room b next begun.so_far
 
-    pub room_end : HasRoom (signed y) next b
-    unfolding ending
-    room_end = room_front (ending y) (signed y) (line_feed ∷ []) refl next b end_room
+    pub room_end : HasRoom t next b
+    unfolding last
+    room_end = room_front last t (line_feed ∷ []) refl next b end_room
 
-    module _ (c : List ℕ) (end : ℕ) (put : Puts (signed y) next b c end) where
+    module _ (c : List ℕ) (end : ℕ) (put : Puts t next b c end) where
       pub room_feed : HasRoom (line_feed ∷ []) end c
-      unfolding ending
-      room_feed = room_back (ending y) (signed y) (line_feed ∷ []) refl next b end_room c end put
+      unfolding last
+      room_feed = room_back last t (line_feed ∷ []) refl next b end_room c end put
 
       pub puts_line : (d : List ℕ) (s : ℕ) → Puts (line_feed ∷ []) end c d s → Puts (line_of (map pos ns ++ (z ∷ []))) at a d s
-      unfolding ending
+      unfolding last
       puts_line d s feed =
-          puts_then _ _ _ rest at a begun.room b next begun.so_far d s (puts_then (ending y) (signed y) (line_feed ∷ []) refl next b end_room c end put d s feed)
+          puts_then _ _ _ rest at a begun.room b next begun.so_far d s (puts_then last t (line_feed ∷ []) refl next b end_room c end put d s feed)

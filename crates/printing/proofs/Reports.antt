@@ -1,26 +1,18 @@
 -- Rows as they are put, line by line. Assumes nothing.
-use Prim.Native.Nat.{ℕ, zero, suc, ◌+◌, ◌-◌, ◌*◌, ◌<◌, ◌≤◌}
+use Prim.Native.Nat.{ℕ, zero, suc, ◌+◌, ◌*◌, ◌<◌, ◌≤◌}
 use native.Mathlib.Omega.{arith}
 use native.Mathlib.Nat.{le_refl}
 use native.Mathlib.Numerals.{add-one}
 use native.Mathlib.Decide.{dec_le}
 use mathlib.Core.Path.{◌≡◌, sym, ap, ap₂, ◌∙◌}
-use mathlib.Core.List.{List, [], ◌∷◌, ◌++◌, map, map-append, append_assoc, append-nil}
-use lib.IntN.{ℤ, pos}
-use lib.ListN.{length, get_or, take, drop, length-append, length-drop}
-use lib.Seq.{take-suc, take_at, drop-append-add, length-take-le}
+use mathlib.Core.List.{List, ◌++◌, append_assoc, append-nil}
+use lib.ListN.{length, take, drop, length-append, length-drop}
+use lib.Seq.{take_at, drop_at, drop-drop, drop-append-add, length-take-le}
 use Rattle.numbers.specs.Limits.{row_width}
-use Rattle.printing.specs.Text.{line_of, row_text, row_at, rows_text}
+use Rattle.printing.specs.Text.{row_text, row_at, rows_text}
 use Rattle.placing.specs.Placing.{HasRoom, Puts}
 use Rattle.printing.specs.Putting.{Printable}
 use Rattle.placing.proofs.Laws.{room_back, puts_then}
-
--- a row's line is that of its numbers before the last count, and of the last count
-pub row_line : (A : ℕ) (row : List ℕ) (z : ℤ) → 3 + A ≤ length row → z ≡ pos (get_or row (2 + A) 0) → line_of (map pos (take (2 + A) row) ++ (z ∷ [])) ≡ row_text A row
-row_line A row z h e =
-    let n : 3 + A ≡ suc (2 + A) = omega arith in
-    let t : take (3 + A) row ≡ take (2 + A) row ++ (get_or row (2 + A) 0 ∷ []) = ap (λ (k : ℕ). take k row) n ∙ take-suc row (2 + A) 0 (omega arith) in
-    rw (e, t, map-append)
 
 -- more rows have no shorter text
 rows_longer : (A : ℕ) (sheet : List ℕ) (j k : ℕ) → j ≤ k → length (rows_text A j sheet) ≤ length (rows_text A k sheet)
@@ -31,9 +23,16 @@ rows_longer A sheet j (suc k) l = elim (dec_le j k) [
   | no m ↦ let e : j ≡ suc k = omega arith in rw e (le_refl (length (rows_text A (suc k) sheet)))
 ]
 
--- row k as the code lends it
-pub row_lent : (sheet : List ℕ) (k : ℕ) → take (row_width * k + row_width - row_width * k) (drop (row_width * k) sheet) ≡ row_at sheet k
-row_lent sheet k = let e : row_width * k + row_width - row_width * k ≡ row_width = omega arith in ap (λ (n : ℕ). take n (drop (row_width * k) sheet)) e
+-- the next chunk of what is left of a sheet after k rows is row k, and the others are left after it
+module _ (sheet left row rest : List ℕ) (k : ℕ) (from : left ≡ drop (row_width * k) sheet) (cut : left ≡ row ++ rest) (wide : length row ≡ row_width) where
+  pub row_lent : row ≡ row_at sheet k
+  row_lent = sym (take_at row rest row_width wide) ∙ ap (take row_width) (sym cut ∙ from)
+
+  pub rows_left : rest ≡ drop (row_width * (k + 1)) sheet
+  rows_left =
+      let n : row_width * k + row_width ≡ row_width * (k + 1) = omega arith in
+      sym (drop_at row rest row_width wide) ∙ ap (drop row_width) (sym cut ∙ from) ∙ drop-drop row_width (row_width * k) sheet
+      ∙ ap (λ (m : ℕ). drop m sheet) n
 
 -- THEOREM. The text of a sheet's rows is the first row's line and then the text of the others
 pub rows_first : (A k : ℕ) (row sheet : List ℕ) → length row ≡ row_width → rows_text A (suc k) (row ++ sheet) ≡ row_text A row ++ rows_text A k sheet

@@ -2,17 +2,16 @@
 #![tactic(auto)]
 
 ghost use Rattle.std.specs.Prelude.{◌≡◌, [], ◌∷◌, ◌++◌, map, ◌+◌, ◌≤◌, ◌<◌, pos, nat_abs, length};
-ghost use Rattle.printing.specs.Text.{decimal, line_of, head_text, row_text, rows_text, report_text, refusal_text};
-ghost use Rattle.printing.specs.Text.{digit as Text·digit, signed as Text·signed};
-ghost use Rattle.numbers.specs.Limits.{row_width};
+ghost use Rattle.printing.specs.Text.{line_of, head_text, row_text, rows_text, report_text, refusal_text};
 ghost use Rattle.placing.specs.Placing.{HasRoom, Puts};
 ghost use Rattle.printing.specs.Putting.{Printable, Printed};
 
+use itoa::{Buffer, Integer};
 use numbers::ROW_WIDTH;
 use placing::{put_byte, put_bytes};
 
 // The numbers of a report's first line: A, D, n, m, the row count and the score.
-#[derive(Clone, Copy)]
+#[derive(Clone, Copy, Debug, PartialEq, Eq)]
 pub struct Head {
     pub alphabet: u32,
     pub depth: u32,
@@ -28,8 +27,6 @@ pub const TEXT_BYTES: usize = 65536;
 const LINE_FEED: u8 = b'\n';
 
 const BLANK: u8 = b' ';
-
-const MINUS: u8 = b'-';
 
 // Puts a report at the start of the buffer, and answers how many bytes it has.
 pub fn put_report(buffer: &mut [u8; TEXT_BYTES], head: Head, sheet: &[u32]) -> usize
@@ -51,19 +48,11 @@ pub fn put_refusal(buffer: &mut [u8; TEXT_BYTES], number: u32) -> usize
     ensures { Printed (refusal_text number) buffer.old buffer.new result }
 {
     let at = put_bytes(buffer, 0, b"refused ");
-    put_line(buffer, at, &[], number as i64)
+    put_line(buffer, at, &[], i64::from(number))
 }
 
 // Puts a line of four numbers and a last one at the start of the buffer, and answers how many bytes it has.
 pub fn put_five(buffer: &mut [u8; TEXT_BYTES], numbers: &[u32; 4], last: i64) -> usize
-    ensures { Printed (line_of (map pos numbers.now ++ (last ∷ []))) buffer.old buffer.new result }
-{
-    put_numbers(buffer, numbers, last)
-}
-
-// The same for as many numbers as a row has at most.
-fn put_numbers(buffer: &mut [u8; TEXT_BYTES], numbers: &[u32], last: i64) -> usize
-    requires { length numbers.now ≤ row_width }
     ensures { Printed (line_of (map pos numbers.now ++ (last ∷ []))) buffer.old buffer.new result }
 {
     put_line(buffer, 0, numbers, last)
@@ -90,11 +79,8 @@ fn put_rows(buffer: &mut [u8], at: usize, sheet: &[u32], rows: usize, alphabet: 
     ensures { Puts (rows_text alphabet rows sheet.now) at buffer.old buffer.new result }
 {
     let mut next = at;
-    let mut k: usize = 0;
-    while k < rows {
-        let from = ROW_WIDTH * k;
-        next = put_row(buffer, next, &sheet[from..from + ROW_WIDTH], alphabet);
-        k += 1;
+    for row in sheet.chunks_exact(ROW_WIDTH).take(rows) {
+        next = put_row(buffer, next, row, alphabet);
     }
     next
 }
@@ -104,7 +90,7 @@ fn put_row(buffer: &mut [u8], at: usize, row: &[u32], alphabet: usize) -> usize
     ensures { Puts (row_text alphabet row.now) at buffer.old buffer.new result }
 {
     let last = 2 + alphabet;
-    put_line(buffer, at, &row[..last], row[last] as i64)
+    put_line(buffer, at, &row[..last], i64::from(row[last]))
 }
 
 // Puts a line: numbers, and a last one that may be negative.
@@ -113,60 +99,27 @@ fn put_line(buffer: &mut [u8], at: usize, numbers: &[u32], last: i64) -> usize
     ensures { Puts (line_of (map pos numbers.now ++ (last ∷ []))) at buffer.old buffer.new result }
 {
     let mut next = at;
-    let mut i = 0;
-    while i < numbers.len() {
-        let end = put_decimal(buffer, next, wide(numbers[i]));
+    for &number in numbers {
+        let end = put_number(buffer, next, number);
         next = put_byte(buffer, end, BLANK);
-        i += 1;
     }
-    let end = put_signed(buffer, next, last);
+    let end = put_number(buffer, next, last);
     put_byte(buffer, end, LINE_FEED)
 }
 
-fn wide(number: u32) -> u64
-    ensures { result ≡ number }
+// Puts a number in decimal digits, after a minus sign where it is negative. Not by `write!`: a writing's clauses say nothing of an `Err`, and cannot
+// say that there is none where there is room, which `Printed` needs.
+fn put_number<I: Integer>(buffer: &mut [u8], at: usize, number: I) -> usize
+    requires { HasRoom (I.text number) at buffer.old }
+    ensures { Puts (I.text number) at buffer.old buffer.new result }
 {
-    number as u64
+    let mut digits = Buffer::new();
+    put_bytes(buffer, at, digits.format(number).as_bytes())
 }
 
-fn put_signed(buffer: &mut [u8], at: usize, z: i64) -> usize
-    requires { HasRoom (Text·signed z) at buffer.old }
-    ensures { Puts (Text·signed z) at buffer.old buffer.new result }
-{
-    let size = magnitude(z);
-    if z < 0 {
-        let next = put_byte(buffer, at, MINUS);
-        return put_decimal(buffer, next, size);
-    }
-    put_decimal(buffer, at, size)
-}
-
-// How far a number is from 0.
+// How far a number is from 0. What may not change: it is named in docs/PROMISES.md.
 pub fn magnitude(z: i64) -> u64
     ensures { result ≡ nat_abs z }
 {
-    if z < 0 {
-        (-(z + 1)) as u64 + 1
-    } else {
-        z as u64
-    }
-}
-
-// Puts a number's digits: those of its tenth, then the last.
-fn put_decimal(buffer: &mut [u8], at: usize, n: u64) -> usize
-    requires { HasRoom (decimal n) at buffer.old }
-    ensures { Puts (decimal n) at buffer.old buffer.new result }
-{
-    if n < 10 {
-        return put_byte(buffer, at, digit(n));
-    }
-    let next = put_decimal(buffer, at, n / 10);
-    put_byte(buffer, next, digit(n % 10))
-}
-
-fn digit(d: u64) -> u8
-    requires { d < 10 }
-    ensures { result ≡ Text·digit d }
-{
-    b'0' + d as u8
+    z.unsigned_abs()
 }

@@ -1,5 +1,4 @@
 pub mod Desks
-pub mod Shifting
 pub mod Inserting
 pub mod Removing
 pub mod Feeding

@@ -1,12 +1,15 @@
 pub mod Parts
 pub mod Lent
 pub mod Rising
+pub mod Halving
 pub mod Finding
 pub mod Ranked
 pub mod Cells
+pub mod Reading
 pub mod Bumping
 pub mod Counting
 pub mod Keeping
 pub mod KeyWalk
 pub mod Seeking
 pub mod Settled
+pub mod Samples

@@ -7,6 +7,7 @@ use native.Mathlib.Omega.{arith}
 use lib.ListN.{length, take, drop, get_or, set, length-drop, take-append-drop}
 use lib.Seq.{take_all, length-take-le, take-append-le, drop-append-le, drop-drop, take-take, take-set-lt, drop-set-lt, take-set-le, drop-set-add}
 use Rattle.numbers.proofs.Lists.{drop_take, get_d_part}
+use Rattle.std.specs.Simd.{first_chunks}
 use Rattle.records.specs.Records.{width, parts, records}
 use Rattle.records.specs.Held.{Wide}
 
@@ -148,3 +149,10 @@ pub wide_records : (n : ℕ) (l : List ℕ) → width * n ≤ length l → Wide 
 unfolding parts
 wide_records zero l h = tt
 wide_records (suc n) l h = (length-take-le width l (omega arith), wide_records n (drop width l) (rw (length-drop width l) (omega arith)))
+
+-- the parts of a list cut up whole, the first n of them
+pub parts_chunked : (w n k : ℕ) (l : List ℕ) → n ≤ k → take n (first_chunks w k l) ≡ parts w n l
+unfolding parts
+parts_chunked w zero k l h = refl
+parts_chunked w (suc n) zero l h = absurd (omega arith)
+parts_chunked w (suc n) (suc k) l h = ap (λ (ps : List (List ℕ)). take w l ∷ ps) (parts_chunked w n k (drop w l) (omega arith))

@@ -3,3 +3,4 @@ pub mod Held
 pub mod Bumped
 pub mod Fed
 pub mod Located
+pub mod Samples

@@ -6,7 +6,6 @@ use mathlib.Core.List.{List}
 use lib.ListN.{length, drop}
 use lib.IntN.{ℤ, pos, neg_ℤ}
 use Rattle.contexts.specs.Sitting.{first, second}
-use Rattle.estimate.specs.Score.{score}
 use Rattle.estimate.proofs.Integers.{minus}
 use Rattle.estimate.proofs.Optimal.{score_estimate}
 use Rattle.numbers.specs.Limits.{row_width}

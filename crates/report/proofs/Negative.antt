@@ -2,18 +2,14 @@
 use Prim.Native.Nat.{ℕ, zero, suc, ◌^◌, ◌<◌}
 use native.Mathlib.Omega.{arith}
 use mathlib.Core.Path.{◌≡◌, ap, ◌∙◌}
-use lib.IntN.{ℤ, pos, neg_ℤ, ◌-ℤ◌, +ℤ_idl}
+use lib.IntN.{ℤ, pos, neg_ℤ}
 use mir.Syntax.{w64}
 use mir.Val.{SFits, to_z, of_z}
-use mir.Facts.{to_z_pos, to_z-of_z}
+use mir.Facts.{to_z-of_z}
 
-pub minus_fits : (k : ℕ) → k < 2 ^ 63 → SFits w64 (neg_ℤ (pos k))
+minus_fits : (k : ℕ) → k < 2 ^ 63 → SFits w64 (neg_ℤ (pos k))
 minus_fits zero h = record { sfits = omega arith }
 minus_fits (suc j) h = record { sfits = omega arith }
-
--- it is what is left of 0 less the loss
-pub minus_taken : (k : ℕ) → k < 2 ^ 63 → pos 0 -ℤ to_z w64 k ≡ neg_ℤ (pos k)
-minus_taken k h = ap (λ (z : ℤ). pos 0 -ℤ z) (to_z_pos w64 h) ∙ +ℤ_idl (neg_ℤ (pos k))
 
 -- and it reads back from its bits
 pub minus_back : (k : ℕ) (z : ℤ) → k < 2 ^ 63 → z ≡ neg_ℤ (pos k) → to_z w64 (of_z w64 z) ≡ neg_ℤ (pos k)

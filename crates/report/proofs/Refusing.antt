@@ -1,33 +1,24 @@
--- What a refused report promises, and which desks can be reported on. Assumes nothing.
+-- What a refused report promises. Assumes nothing.
 use Prim.Native.Nat.{ℕ, ◌≤◌, ◌<◌}
 use native.Mathlib.Omega.{arith}
-use mathlib.Core.Path.{◌≡◌, sym, ap, subst, ◌∙◌}
+use mathlib.Core.Path.{◌≡◌, subst}
 use mathlib.Core.Bool.{true}
 use mathlib.Core.List.{List}
 use lib.ListN.{length}
-use lib.Dec.{eqb→eq}
-use Rattle.numbers.specs.Limits.{desks}
 use Rattle.contexts.specs.Sitting.{first, second}
 use Rattle.replay.specs.Room.{opened}
 use Rattle.replay.specs.Table.{refused}
-use Rattle.store.specs.Layout.{field, size_at}
+use Rattle.store.specs.Layout.{size_at}
 use Rattle.store.specs.Sound.{soundb}
 use Rattle.store.specs.Plain.{Open}
 use Rattle.store.specs.Meaning.{opening_at, progress_at, meaning}
-use Rattle.store.proofs.Fitting.{desk_opened, desk_closed}
+use Rattle.store.proofs.Fitting.{desk_opened}
 use Rattle.weighing.specs.declared.Desk.{Desk}
-use Rattle.report.specs.Desk.{desk_in, CanReportOn}
+use Rattle.report.specs.Desk.{desk_in}
 use Rattle.calls.specs.Promises.{Reports}
-use Rattle.calls.proofs.Reporting.{no_such_desk_lem, not_open, first_empty, second_empty, first_short, second_short, reports_refused}
+use Rattle.calls.proofs.Reporting.{first_empty, second_empty, first_short, second_short, reports_refused}
 
 module _ (s : List ℕ) (d place : ℕ) (sheet : List ℕ) (sound : soundb s ≡ true) where
-  pub told_no_desk : desks ≤ d → Reports s d place (refused 2) sheet sheet
-  told_no_desk h = reports_refused s d place sheet 2 sound (no_such_desk_lem (meaning s) d (length sheet) place h)
-
-  pub told_shut : d < desks → (field s d 0 ≡ 1 → ⊥) → Reports s d place (refused 4) sheet sheet
-  unfolding meaning
-  told_shut h n = reports_refused s d place sheet 4 sound (not_open (meaning s) d (length sheet) place h (desk_closed s d (λ o. n (eqb→eq (field s d 0) 1 o.opened))))
-
   module _ (o : Open s d) where
     at_desk_holds : (meaning s).at d ≡ opened (opening_at s d) (progress_at s d)
     unfolding meaning
@@ -54,15 +45,3 @@ module _ (s : List ℕ) (d place : ℕ) (sheet : List ℕ) (sound : soundb s ≡
           reports_refused s d place sheet 24 sound
           (second_short (meaning s) d (length sheet) place (opening_at s d) (progress_at s d) o.desk at_desk_holds
           (subst (λ (x : Desk). x.depth < x.n) e n) some_second (subst (λ (x : Desk). x.m ≤ x.depth) e h))
-
-    -- an open desk whose samples have more symbols than D can be reported on
-    pub can_report : (k : Desk) → k ≡ desk_in s d → k.depth < k.n → k.depth < k.m → CanReportOn s k
-    can_report k e n m =
-        let number : k.number ≡ d = ap (λ (x : Desk). x.number) e in
-        record {
-          sound = sound;
-          at_open = subst (Open s) (sym number) o;
-          is_desk = e ∙ ap (desk_in s) (sym number);
-          long_first = n;
-          long_second = m;
-        }

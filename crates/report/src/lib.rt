@@ -2,69 +2,93 @@
 #![tactic(auto)]
 
 ghost use Rattle.std.specs.Prelude.{◌≡◌, ◌+◌, ◌/◌, ◌^◌, ◌≤◌, ◌<◌, length, pos, neg_ℤ};
-ghost use Rattle.numbers.specs.Limits.{desks, most_room, row_width};
-ghost use Rattle.logarithm.specs.Table.{AreLogs};
-ghost use Rattle.store.specs.Layout.{header_size};
+ghost use Rattle.numbers.specs.Limits.{most_room, row_width};
 ghost use Rattle.store.specs.Meaning.{sitting_at};
 ghost use Rattle.calls.specs.Refusals.{written_of};
 ghost use Rattle.calls.specs.Promises.{with_rows, Reports};
 ghost use Rattle.rows.specs.Rows as rows;
 ghost use Rattle.report.specs.Desk.{desk_in, CanReportOn, WeighedDesk, DecidedDesk};
 
-use calls::{Refusal, ReportAnswer};
-use numbers::{DESKS, MOST_ROOM, ROW_WIDTH};
-use store::layout::{
-    DEPTH, HEADER, OPEN, SIZE_FIRST, SIZE_SECOND, SYMBOLS, USED, WEIGHT, field_at,
-};
+use calls::{Refusal, Reported};
+use door::open_desk;
+use logarithm::LentLogs;
+use numbers::{MOST_ROOM, ROW_WIDTH};
+use records::{Held, Sample};
+use store::layout::{DeskNumbers, HEADER, USED};
 use weighing::{Desk, Least};
 
-// Writes a desk's report on the sheet, from row `place` on.
-pub fn report(store: &[u32], desk: u32, sheet: &mut [u32], place: u32) -> ReportAnswer
+// Writes a desk's report on the sheet, from row `place` on. What may not change: what it is given is named in docs/PROMISES.md.
+pub fn report(store: &[u32], desk: u32, sheet: &mut [u32], place: u32) -> Result<Reported, Refusal>
     ensures { Reports store.now desk place (written_of result place sheet.new) sheet.old sheet.new }
 {
-    if !soundness::sound(store) {
-        return ReportAnswer::Refused(Refusal::Unsound);
+    open_desk(store, desk)?;
+    let at = desk_in(DeskNumbers {
+        store,
+        desk: desk as usize,
+    });
+    if at.n == 0 || at.m == 0 {
+        return Err(Refusal::SampleEmpty);
     }
-    let d = desk as usize;
-    if DESKS <= d {
-        return ReportAnswer::Refused(Refusal::NoSuchDesk);
+    if at.n <= at.depth || at.m <= at.depth {
+        return Err(Refusal::SampleShort);
     }
-    if field_at(store, d, OPEN) != 1 {
-        return ReportAnswer::Refused(Refusal::NotOpen);
-    }
-    let at = desk_in(store, desk);
-    let n = at.n;
-    let m = at.m;
-    if n == 0 {
-        return ReportAnswer::Refused(Refusal::SampleEmpty);
-    }
-    if m == 0 {
-        return ReportAnswer::Refused(Refusal::SampleEmpty);
-    }
-    let depth = at.depth;
-    if n <= depth {
-        return ReportAnswer::Refused(Refusal::SampleShort);
-    }
-    if m <= depth {
-        return ReportAnswer::Refused(Refusal::SampleShort);
-    }
-    report_on(store, at, sheet, place)
+    Reportable { store, desk: at }.report_on(sheet, place)
 }
 
-// The report on an open desk both of whose samples have more symbols than its depth. What logarithms are read from is put here once, and lent to all below.
-fn report_on(store: &[u32], desk: Desk, sheet: &mut [u32], place: u32) -> ReportAnswer
-    requires { CanReportOn store.now desk }
-    ensures { Reports store.now desk.number place (written_of result place sheet.new) sheet.old sheet.new }
-{
-    let logs = logarithm::logs();
-    let mut kept = [0u8; MOST_ROOM];
-    let least = weighed(&logs, store, desk, &mut kept);
-    let whole = sheet.len() / ROW_WIDTH;
-    if whole < place as usize + least.rows as usize {
-        return ReportAnswer::Refused(Refusal::SheetShort);
+// An open desk of a sound store, both of whose samples have more symbols than its depth. No value without that can be made.
+#[derive(Clone, Copy)]
+struct Reportable<'a> {
+    store: &'a [u32],
+    desk: Desk,
+    ghost can: { CanReportOn store.now desk },
+}
+
+impl Reportable<'_> {
+    // The report on it. What logarithms are read from is put here once, and lent to all below.
+    fn report_on(&self, sheet: &mut [u32], place: u32) -> Result<Reported, Refusal>
+        ensures { Reports self.now.store.now self.now.desk.number place (written_of result place sheet.new) sheet.old sheet.new }
+    {
+        let logs = logarithm::logs();
+        let logs = LentLogs::new(&logs);
+        let mut kept = [0u8; MOST_ROOM];
+        let least = self.weighed(logs, &mut kept);
+        let whole = sheet.len() / ROW_WIDTH;
+        if whole < place as usize + least.rows as usize {
+            return Err(Refusal::SheetShort);
+        }
+        self.write(logs, &kept, sheet, place);
+        Ok(Reported {
+            rows: least.rows as u32,
+            score: score_of(least.joint),
+        })
     }
-    write(&logs, store, desk, &kept, sheet, place);
-    ReportAnswer::Rows(least.rows as u32, score_of(least.joint))
+
+    // Weighs the desk's records; the decisions are kept beside them.
+    fn weighed(&self, logs: LentLogs, kept: &mut [u8]) -> Least
+        requires { most_room ≤ length kept.old }
+        ensures { WeighedDesk self.now.store.now self.now.desk.number kept.new result }
+    {
+        let n = self.store[USED] as usize;
+        let numbers = &self.store[HEADER..];
+        weighing::weigh(logs, Held { numbers, n }, self.desk, kept)
+    }
+
+    // Writes the weighed desk's rows from row `place` on.
+    fn write(&self, logs: LentLogs, kept: &[u8], sheet: &mut [u32], place: u32)
+        requires { DecidedDesk self.now.store.now self.now.desk.number kept.now × (place + length (rows.report_of (sitting_at self.now.store.now self.now.desk.number)) ≤ length sheet.old / row_width) }
+        ensures { sheet.new ≡ with_rows place (rows.report_of (sitting_at self.now.store.now self.now.desk.number)) sheet.old }
+    {
+        let n = self.store[USED] as usize;
+        let numbers = &self.store[HEADER..];
+        let start = ROW_WIDTH * place as usize;
+        listing::write_rows(
+            logs,
+            Held { numbers, n },
+            self.desk,
+            kept,
+            &mut sheet[start..],
+        );
+    }
 }
 
 // The score is the loss with a minus sign.
@@ -75,44 +99,16 @@ fn score_of(loss: u64) -> i64
     -(loss as i64)
 }
 
-// Weighs an open desk's records; the decisions are kept beside them.
-fn weighed(logs: &[u32], store: &[u32], desk: Desk, kept: &mut [u8]) -> Least
-    requires { AreLogs logs.now × CanReportOn store.now desk × (most_room ≤ length kept.old) }
-    ensures { WeighedDesk store.now desk.number kept.new result }
-{
-    let used = store[USED] as usize;
-    weighing::weigh(logs, &store[HEADER..], used, desk, kept)
-}
-
-// Writes a weighed desk's rows from row `place` on.
-fn write(logs: &[u32], store: &[u32], desk: Desk, kept: &[u8], sheet: &mut [u32], place: u32)
-    requires { AreLogs logs.now × CanReportOn store.now desk × DecidedDesk store.now desk.number kept.now × (place + length (rows.report_of (sitting_at store.now desk.number)) ≤ length sheet.old / row_width) }
-    ensures { sheet.new ≡ with_rows place (rows.report_of (sitting_at store.now desk.number)) sheet.old }
-{
-    let used = store[USED] as usize;
-    let start = ROW_WIDTH * place as usize;
-    listing::write_rows(
-        logs,
-        &store[HEADER..],
-        used,
-        desk,
-        kept,
-        &mut sheet[start..],
-    );
-}
-
 // A desk's numbers, as a weighing takes them.
-fn desk_in(store: &[u32], desk: u32) -> Desk
-    requires { (header_size ≤ length store.now) × (desk < desks) }
-    ensures { result ≡ desk_in store.now desk }
+fn desk_in(numbers: DeskNumbers) -> Desk
+    ensures { result ≡ desk_in numbers.entry.store.now numbers.entry.desk }
 {
-    let d = desk as usize;
     Desk {
-        number: desk,
-        symbols: field_at(store, d, SYMBOLS),
-        depth: field_at(store, d, DEPTH),
-        weight: field_at(store, d, WEIGHT),
-        n: field_at(store, d, SIZE_FIRST),
-        m: field_at(store, d, SIZE_SECOND),
+        number: numbers.desk as u32,
+        symbols: numbers.symbols(),
+        depth: numbers.depth(),
+        weight: numbers.weight(),
+        n: numbers.size(Sample::First),
+        m: numbers.size(Sample::Second),
     }
 }

@@ -1,31 +1,20 @@
--- A row written on a part of a sheet, and rows read back from their numbers. Assumes nothing.
+-- Rows read back from their numbers. Assumes nothing.
 use Prim.Native.Nat.{ℕ, zero, suc, ◌≤◌}
 use native.Mathlib.Omega.{arith}
 use mathlib.Core.Path.{◌≡◌, refl, ap, ap₂, ◌∙◌}
 use mathlib.Core.List.{List, [], ◌∷◌, ◌++◌, map, append_assoc, Memᴰ}
-use lib.ListN.{length, set, take, drop}
-use lib.Seq.{paste, length-paste, take_at, drop_at}
+use lib.ListN.{length, take, drop}
+use lib.Seq.{take_at, drop_at}
 use lib.Dec.{T}
 use Rattle.numbers.specs.Limits.{most_symbols, deepest, row_width}
 use Rattle.contexts.specs.Context.{is_context}
-use Rattle.contexts.specs.Sitting.{first, second, Sitting, eight}
+use Rattle.contexts.specs.Sitting.{first, second, Sitting}
 use Rattle.contexts.proofs.Strings.{context_more}
 use Rattle.contexts.proofs.Codes.{decoded_code}
 use Rattle.estimate.specs.Trees.{Kind, shared, own, Triple}
 use Rattle.rows.specs.Members.{Member, number, members}
 use Rattle.rows.specs.Rows.{Row, row_of, rows_of, numbers_of, sheet_of, kind_of, read_row, read_rows}
 use Rattle.rows.proofs.Holding.{of_members}
-
--- three numbers written before the eight counts c that were pasted
-module _ (p : List ℕ) (c : ℕ → ℕ) (kind len code : ℕ) where
-  pub row_written : (l : List ℕ) → row_width ≤ length l → p ≡ paste l 3 (eight c) most_symbols → set (set (set p 0 kind) 1 len) 2 code ≡ (kind ∷ len ∷ code ∷ eight c) ++ drop row_width l
-  row_written [] h e = absurd (omega arith)
-  row_written (a ∷ []) h e = absurd (omega arith)
-  row_written (a ∷ b ∷ []) h e = absurd (omega arith)
-  row_written (a ∷ b ∷ d ∷ l) h e = rw e
-
-  pub row_kept : (l : List ℕ) → row_width ≤ length l → p ≡ paste l 3 (eight c) most_symbols → length p ≡ length l
-  row_kept l h e = ap length e ∙ length-paste l 3 (eight c) most_symbols h (omega arith)
 
 -- ---- reading back
 

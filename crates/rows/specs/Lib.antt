@@ -2,3 +2,4 @@ pub mod Members
 pub mod Rows
 pub mod Walk
 pub mod Exchange
+pub mod Kinds

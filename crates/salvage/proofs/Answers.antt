@@ -1,4 +1,5 @@
 -- What a salvage answers by the header and the writer's answer, and that what the code leaves then keeps the promise. Assumes nothing.
+use Rattle.std.specs.Prelude.{Ok, Err}
 use Prim.Native.Nat.{ℕ, ◌≤◌, ◌<◌}
 use native.Mathlib.Decide.{dec_le}
 use native.Mathlib.Omega.{arith}
@@ -9,17 +10,13 @@ use lib.Seq.{take_at}
 use borrow.Author.Tests.{lt-ltb, le-ltb}
 use Rattle.replay.specs.Table.{Outcome, refused, answered, verdict_of}
 use Rattle.replay.proofs.Tables.{no_refusal, answer_same}
-use Rattle.sitting_file.specs.Format.{header_of}
+use Rattle.sitting_file.specs.Format.{Heading, header_of}
 use Rattle.sitting_file.specs.Format as format
 use Rattle.sitting_file.specs.declared.Shape.{Shape}
-use Rattle.sitting_file.specs.declared.Heading.{Heading}
-use Rattle.sitting_file.specs.declared.Heading.TheVariants.{Whole, Faulty}
 use Rattle.sitting_file.specs.declared.Refusal as file
 use Rattle.sitting_file.proofs.Stages.{header_read}
-use Rattle.writing.specs.Writing.{writing_outcome, WritesFile}
+use Rattle.writing.specs.Writing.{Writing, writing_outcome, WritesFile}
 use Rattle.writing.specs.Writing as writing
-use Rattle.writing.specs.declared.Writing.{Writing}
-use Rattle.writing.specs.declared.Writing.TheVariants as writer
 use Rattle.writing.proofs.Good.{Good}
 use Rattle.writing.proofs.Answers.{good_answers, good_short, accepted}
 use Rattle.salvage.specs.Salvage.{first_bytes, second_bytes, first_kept, second_kept, Saved, saved_of, salvage_of, salvaged_by, salvage_outcome, Within, Salvages}
@@ -28,7 +25,7 @@ use Rattle.salvage.proofs.Keeping.{kept_begins, kept_fits}
 
 -- ---- a faulty header
 
-pub fault_stays : (damaged before : List ℕ) (why : file.Refusal) → header_of damaged ≡ Faulty why → Salvages damaged before (refused (format.refusal_number why)) before
+pub fault_stays : (damaged before : List ℕ) (why : file.Refusal) → header_of damaged ≡ Err why → Salvages damaged before (refused (format.refusal_number why)) before
 unfolding salvage_of
 fault_stays damaged before why e = record {
   answers = sym (ap (λ (h : Heading). salvage_of h damaged (length before)) e);
@@ -38,7 +35,7 @@ fault_stays damaged before why e = record {
 
 -- ---- a whole one
 
-module _ (damaged : List ℕ) (shape : Shape) (at : ℕ) (whole : header_of damaged ≡ Whole shape at) where
+module _ (damaged : List ℕ) (shape : Shape) (at : ℕ) (whole : header_of damaged ≡ Ok (shape, at)) where
   abbrev body : List ℕ
   body = drop at damaged
 
@@ -118,6 +115,6 @@ module _ (damaged : List ℕ) (shape : Shape) (at : ℕ) (whole : header_of dama
 
     -- either way, with what the code tells of it
     pub saved_by : (x : Writing) (lost : Lost) → lost ≡ saved.lost → Wrote (writing_outcome x) → Salvages damaged before (salvage_outcome (salvaged_by x lost) after) after × Within (salvaged_by x lost) after
-    saved_by (writer.Length size) lost e w =
+    saved_by (Ok size) lost e w =
         (subst (λ (l : Lost). Salvages damaged before (answered (record { file = take size after; lost = l })) after) (sym e) (file_saved size w), fits size w)
-    saved_by (writer.Refused why) lost e w = (none_saved (writing.refusal_number why) w, tt)
+    saved_by (Err why) lost e w = (none_saved (writing.refusal_number why) w, tt)

@@ -1,45 +1,44 @@
 -- What is kept of a sample's bytes: a beginning of them, below A, and the longest that is. Assumes nothing.
 use Prim.Native.Nat.{ℕ, zero, suc, ◌+◌, ◌≤◌, ◌<◌}
 use native.Mathlib.Omega.{arith}
-use native.Mathlib.Numerals.{add-one}
 use mathlib.Core.Path.{◌≡◌, refl, sym, ap, ◌∙◌}
 use mathlib.Core.Bool.{Bool, true, false, cond}
-use mathlib.Core.List.{List, [], ◌∷◌, ◌++◌, append_assoc, append-nil}
-use borrow.Author.Tests.{ltb-true, lt-ltb, le-ltb}
-use lib.Dec.{ltb}
-use lib.ListN.{length, get_or, take, drop, drop_of_length-le, length-append}
-use lib.Seq.{take-suc, take_all, drop-cons}
+use mathlib.Core.List.{List, [], ◌∷◌, ◌++◌, append-nil}
+use borrow.Author.Tests.{ltb-true, ltb-false, lt-ltb, le-leb, lt-leb}
+use Rattle.std.specs.Prelude.{Option, Some, None}
+use Rattle.std.specs.Option.{unwrap_or}
+use Rattle.std.specs.List.{position_or_len}
+use lib.Dec.{ltb, leb}
+use lib.ListN.{length, take, length-append}
+use lib.Seq.{take_all}
 use Rattle.sitting_file.specs.Samples.{Below}
 use Rattle.salvage.specs.Salvage.{kept_bytes}
 use Rattle.salvage.specs.Saving.{Beginning}
 
--- ---- byte by byte: the bytes before a place, and what is kept from there on
+-- what is kept are the bytes before the first that is not below A
+pub kept_before : (A : ℕ) (bytes : List ℕ) → kept_bytes A bytes ≡ take (position_or_len (leb A) bytes) bytes
+unfolding kept_bytes
+kept_before A [] = refl
+kept_before A (b ∷ bs) = go (ltb b A) refl (kept_before A bs)
+  where
+    one_more : 1 + position_or_len (leb A) bs ≡ suc (position_or_len (leb A) bs)
+    one_more = omega arith
 
-module _ (A : ℕ) (bytes : List ℕ) (i : ℕ) where
-  abbrev SoFar : Type 0
-  SoFar = kept_bytes A bytes ≡ take i bytes ++ kept_bytes A (drop i bytes)
+    go : (t : Bool) → ltb b A ≡ t → kept_bytes A bs ≡ take (position_or_len (leb A) bs) bs → kept_bytes A (b ∷ bs) ≡ take (position_or_len (leb A) (b ∷ bs)) (b ∷ bs)
+    go true e h = rw (e, lt-leb A b (ltb-true b A e)) (ap (λ (l : List ℕ). b ∷ l) h ∙ sym (ap (λ (k : ℕ). take k (b ∷ bs)) one_more))
+    go false e h = rw (e, le-leb A b (ltb-false b A e))
 
-  abbrev byte : ℕ
-  byte = get_or bytes i 0
+-- as a search finds that place
+pub kept_found : (A : ℕ) (bytes : List ℕ) (place : Option ℕ) → place ≡ cond (ltb (position_or_len (leb A) bytes) (length bytes)) (Some (position_or_len (leb A) bytes)) None
+    → take (unwrap_or place (length bytes)) bytes ≡ kept_bytes A bytes
+kept_found A bytes place e = rw e (go (ltb first (length bytes)) refl) ∙ sym (kept_before A bytes)
+  where
+    first : ℕ
+    first = position_or_len (leb A) bytes
 
-  pub kept_on : SoFar → i < length bytes → byte < A → kept_bytes A bytes ≡ take (i + 1) bytes ++ kept_bytes A (drop (i + 1) bytes)
-  unfolding kept_bytes
-  kept_on so_far more below =
-      let here : kept_bytes A (drop i bytes) ≡ byte ∷ kept_bytes A (drop (i + 1) bytes) = rw (drop-cons bytes i 0 more, lt-ltb byte A below, add-one) in
-      let one : take (i + 1) bytes ≡ take i bytes ++ (byte ∷ []) = rw add-one (take-suc bytes i 0 more) in
-      so_far ∙ ap (λ (l : List ℕ). take i bytes ++ l) here ∙ sym (append_assoc (take i bytes) (byte ∷ []) _) ∙ ap (λ (l : List ℕ). l ++ kept_bytes A (drop (i + 1) bytes)) (sym one)
-
-  pub kept_ends : SoFar → i < length bytes → A ≤ byte → kept_bytes A bytes ≡ take i bytes
-  unfolding kept_bytes
-  kept_ends so_far more above =
-      let here : kept_bytes A (drop i bytes) ≡ [] = rw (drop-cons bytes i 0 more, le-ltb byte A above) in
-      so_far ∙ ap (λ (l : List ℕ). take i bytes ++ l) here ∙ append-nil (take i bytes)
-
-  pub kept_whole : SoFar → length bytes ≤ i → kept_bytes A bytes ≡ bytes
-  unfolding kept_bytes
-  kept_whole so_far past =
-      let here : kept_bytes A (drop i bytes) ≡ [] = rw (drop_of_length-le bytes past) in
-      so_far ∙ ap (λ (l : List ℕ). take i bytes ++ l) here ∙ append-nil (take i bytes) ∙ take_all i bytes past
+    go : (t : Bool) → ltb first (length bytes) ≡ t → take (unwrap_or (cond t (Some first) None) (length bytes)) bytes ≡ take first bytes
+    go true f = refl
+    go false f = take_all (length bytes) bytes (omega arith) ∙ sym (take_all first bytes (ltb-false first (length bytes) f))
 
 -- ---- a beginning
 

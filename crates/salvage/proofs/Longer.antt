@@ -1,4 +1,5 @@
 -- A file and its first bytes, as many as a program reads, differ in what is cut off alone: header and samples end within them. Assumes nothing.
+use Rattle.std.specs.Prelude.{Ok, Err}
 use Prim.Native.Nat.{ℕ, zero, suc, ◌+◌, ◌-◌, ◌≤◌}
 use native.Mathlib.Omega.{arith}
 use mathlib.Core.Path.{◌≡◌, refl, sym, ap, ◌∙◌}
@@ -8,12 +9,10 @@ use lib.Dec.{ltb}
 use lib.ListN.{length, take, drop, length-drop}
 use lib.Seq.{take-take, drop-drop, length-take-le}
 use Rattle.replay.specs.Table.{refused, answered, verdict_of}
-use Rattle.sitting_file.specs.Format.{header_of}
+use Rattle.sitting_file.specs.Format.{Heading, header_of}
 use Rattle.sitting_file.specs.Input.{input_bytes}
 use Rattle.sitting_file.specs.Samples.{longest_file}
 use Rattle.sitting_file.specs.declared.Shape.{Shape}
-use Rattle.sitting_file.specs.declared.Heading.{Heading}
-use Rattle.sitting_file.specs.declared.Heading.TheVariants.{Whole, Faulty}
 use Rattle.sitting_file.proofs.LongInput.{same_header}
 use Rattle.sitting_file.proofs.Stages.{header_read}
 use Rattle.salvage.specs.Salvage.{first_bytes, second_bytes, cut_off, Saved, saved_from, saved_of, salvage_of}
@@ -34,7 +33,7 @@ module _ (damaged : List ℕ) (bytes : ℕ) (long : longest_file ≤ bytes) (ins
   abbrev beyond : ℕ
   beyond = length damaged - bytes
 
-  module _ (shape : Shape) (at : ℕ) (whole : header_of damaged ≡ Whole shape at) where
+  module _ (shape : Shape) (at : ℕ) (whole : header_of damaged ≡ Ok (shape, at)) where
     ends : at + shape.first + shape.second ≤ bytes
     ends = let h = header_read damaged shape at whole in omega (arith, h.place, h.limits.first_high, h.limits.second_high, long)
 
@@ -57,7 +56,7 @@ module _ (damaged : List ℕ) (bytes : ℕ) (long : longest_file ≤ bytes) (ins
     saved_more : saved_of shape (drop at damaged) ≡ more
     saved_more = saved_same shape (drop at damaged) _ _ _ (sym first_same) (sym second_same) (sym cut_more_lem)
 
-    answer_more : (room : ℕ) → salvage_of (Whole shape at) damaged room ≡ cut_more beyond (salvage_of (Whole shape at) part room)
+    answer_more : (room : ℕ) → salvage_of (Ok (shape, at)) damaged room ≡ cut_more beyond (salvage_of (Ok (shape, at)) part room)
     unfolding salvage_of verdict_of
     answer_more room = ap (λ (s : Saved). cond (ltb room (length s.file)) (refused 19) (answered s)) saved_more ∙ by (ltb room (length (saved_of shape (drop at part)).file))
       where
@@ -70,8 +69,8 @@ module _ (damaged : List ℕ) (bytes : ℕ) (long : longest_file ≤ bytes) (ins
   first_save room = by (header_of damaged) refl ∙ ap (λ (h : Heading). cut_more beyond (salvage_of h part room)) (same_header damaged bytes inside (omega (arith, long)))
     where
       by : (h : Heading) → header_of damaged ≡ h → salvage_of (header_of damaged) damaged room ≡ cut_more beyond (salvage_of (header_of damaged) part room)
-      by (Faulty why) e = rw e
-      by (Whole shape at) e = ap (λ (h : Heading). salvage_of h damaged room) e ∙ answer_more shape at e room ∙ ap (λ (h : Heading). cut_more beyond (salvage_of h part room)) (sym e)
+      by (Err why) e = rw e
+      by (Ok (shape, at)) e = ap (λ (h : Heading). salvage_of h damaged room) e ∙ answer_more shape at e room ∙ ap (λ (h : Heading). cut_more beyond (salvage_of h part room)) (sym e)
 
 -- THEOREM. A file and its first bytes differ in what is cut off alone
 pub first_bytes_save : FirstBytesSave

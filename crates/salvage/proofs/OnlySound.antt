@@ -1,4 +1,5 @@
 -- A file that comes out with zeros is the same, and the reader accepts it: nothing was missing, dropped or cut off. Assumes nothing.
+use Rattle.std.specs.Prelude.{Ok}
 use Prim.Native.Nat.{ℕ, ◌+◌, ◌-◌, ◌≤◌}
 use native.Mathlib.Omega.{arith}
 use mathlib.Core.Path.{◌≡◌, sym, ap, ap₂, ◌∙◌}
@@ -8,7 +9,6 @@ use lib.Seq.{take_all}
 use Rattle.sitting_file.specs.Format.{header_of, read_of}
 use Rattle.sitting_file.specs.Verdict.{Bytes, written, with_header}
 use Rattle.sitting_file.specs.declared.Shape.{Shape}
-use Rattle.sitting_file.specs.declared.Heading.TheVariants.{Whole}
 use Rattle.sitting_file.proofs.AnswerTrue.{header_bytes}
 use Rattle.writing.specs.Writing.{shape_of}
 use Rattle.writing.proofs.Good.{file_parts}
@@ -27,7 +27,7 @@ none_missing A wanted bytes e h =
     let dropped : length bytes - length (kept_bytes A bytes) ≡ 0 = ap (λ (g : Gone). g.dropped) e in
     (whole_kept A bytes (omega (arith, dropped)), omega (arith, missing, h))
 
-module _ (damaged : List ℕ) (bytes : Bytes damaged) (shape : Shape) (place : ℕ) (whole : header_of damaged ≡ Whole shape place) (e : (saved_of shape (drop place damaged)).lost ≡ nothing_lost) where
+module _ (damaged : List ℕ) (bytes : Bytes damaged) (shape : Shape) (place : ℕ) (whole : header_of damaged ≡ Ok (shape, place)) (e : (saved_of shape (drop place damaged)).lost ≡ nothing_lost) where
   abbrev body : List ℕ
   body = drop place damaged
 

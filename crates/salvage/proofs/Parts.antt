@@ -8,7 +8,7 @@ use lib.Seq.{drop-drop}
 use Rattle.replay.specs.Table.{Outcome}
 use Rattle.sitting_file.specs.declared.Shape.{Shape}
 use Rattle.writing.specs.Writing.{WritesFile}
-use Rattle.salvage.specs.Salvage.{first_bytes, second_bytes, kept_bytes, first_kept, second_kept, gone_of, cut_off, saved_from, saved_of}
+use Rattle.salvage.specs.Salvage.{first_bytes, second_bytes, first_kept, second_kept, gone_of, cut_off, saved_from, saved_of}
 use Rattle.salvage.specs.declared.Gone.{Gone}
 
 -- ---- the same bytes, the same file and losses
@@ -26,12 +26,7 @@ module _ (damaged : List ℕ) (shape : Shape) (at : ℕ) where
   abbrev A : ℕ
   A = shape.alphabet
 
-  -- what is told of a sample, by bytes and kept ones that are the same
-  pub gone_told : (g : Gone) (wanted : ℕ) (bytes xs kept : List ℕ) → xs ≡ bytes → kept ≡ kept_bytes A bytes
-      → (g.missing ≡ wanted - length xs) × (g.dropped ≡ length xs - length kept) → g ≡ gone_of A wanted bytes
-  gone_told g wanted bytes xs kept e f t =
-      ap₂ (λ (m d : ℕ). record { missing = m; dropped = d }) (t.0 ∙ ap (λ (l : List ℕ). wanted - length l) e) (t.1 ∙ ap₂ (λ (l k : List ℕ). length l - length k) e f)
-
+  -- and what is told of both
   pub lost_told : (g h : Gone) (cut : ℕ) → g ≡ gone_of A shape.first (first_bytes shape (drop at damaged)) → h ≡ gone_of A shape.second (second_bytes shape (drop at damaged))
       → cut ≡ length damaged - (at + shape.first + shape.second) → record { first = g; second = h; cut = cut } ≡ (saved_of shape (drop at damaged)).lost
   lost_told g h cut d e f =

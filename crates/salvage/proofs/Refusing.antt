@@ -1,4 +1,5 @@
 -- A faulty header is refused as the reader does, never with 16, and else only too few bytes are; as many as the damaged file has are enough. Assumes nothing.
+use Rattle.std.specs.Prelude.{Ok, Err}
 use Prim.Native.Nat.{ℕ, ◌+◌, ◌≤◌}
 use native.Mathlib.Decide.{dec_lt}
 use native.Mathlib.Omega.{arith}
@@ -10,14 +11,12 @@ use lib.Dec.{ltb}
 use lib.ListN.{length, drop, length-append, length-take, length-drop}
 use Rattle.replay.specs.Table.{refused, answered, verdict_of}
 use Rattle.replay.proofs.Tables.{no_refusal, number_same}
-use Rattle.sitting_file.specs.Format.{high_bit, header_of, body_of}
+use Rattle.sitting_file.specs.Format.{Heading, high_bit, header_of, body_of}
 use Rattle.sitting_file.specs.Format as format
 use Rattle.sitting_file.specs.Verdict.{Bytes, shortest}
 use Rattle.sitting_file.specs.declared.Shape.{Shape}
 use Rattle.sitting_file.specs.declared.Refusal.{Refusal}
 use Rattle.sitting_file.specs.declared.Refusal.TheVariants.{EndsEarly, NotShortest, OutsideLimits, BytesLeft}
-use Rattle.sitting_file.specs.declared.Heading.{Heading}
-use Rattle.sitting_file.specs.declared.Heading.TheVariants.{Whole, Faulty}
 use Rattle.sitting_file.proofs.AnswerTrue.{header_place}
 use Rattle.sitting_file.proofs.Stages.{header_fault, header_read}
 use Rattle.writing.proofs.Sizes.{one_long, two_long, at_most_two, file_long, file_fits}
@@ -31,8 +30,8 @@ use Rattle.salvage.proofs.Answers.{kept_good, saved_answers}
 -- what a salvage answers is what its lines say, of what there is to answer
 pub by_lines : (h : Heading) (damaged : List ℕ) (room : ℕ) → (s : Saved) × (salvage_of h damaged room ≡ verdict_of (salvage_lines h damaged room) s)
 unfolding salvage_of verdict_of
-by_lines (Faulty why) damaged room = (record { file = []; lost = nothing_lost }, refl)
-by_lines (Whole shape at) damaged room = (saved_of shape (drop at damaged), refl)
+by_lines (Err why) damaged room = (record { file = []; lost = nothing_lost }, refl)
+by_lines (Ok (shape, at)) damaged room = (saved_of shape (drop at damaged), refl)
 
 -- THEOREM. A faulty header "is refused as the reader does", and never with 16
 pub as_the_reader : AsTheReader
@@ -52,9 +51,9 @@ no_other damaged before after n w = go (header_of damaged) refl w.answers
     short true s e = number_same e
     short false s e = no_refusal refl (sym e)
 
-    go : (h : Heading) → header_of damaged ≡ h → refused n ≡ salvage_of h damaged (length before) → ((why : Refusal) × (header_of damaged ≡ Faulty why) × (n ≡ format.refusal_number why)) ⊎ (n ≡ 19)
-    go (Faulty why) q e = inl (why, q, number_same e)
-    go (Whole shape at) q e = inr (short (ltb (length before) (length (saved_of shape (drop at damaged)).file)) (saved_of shape (drop at damaged)) e)
+    go : (h : Heading) → header_of damaged ≡ h → refused n ≡ salvage_of h damaged (length before) → ((why : Refusal) × (header_of damaged ≡ Err why) × (n ≡ format.refusal_number why)) ⊎ (n ≡ 19)
+    go (Err why) q e = inl (why, q, number_same e)
+    go (Ok (shape, at)) q e = inr (short (ltb (length before) (length (saved_of shape (drop at damaged)).file)) (saved_of shape (drop at damaged)) e)
 
 -- ---- how long the saved file is
 
@@ -68,7 +67,7 @@ shorter k v h = elim (dec_lt k high_bit) [
   | no l ↦ omega (arith, at_most_two k, two_long v (omega arith))
 ]
 
-module _ (damaged : List ℕ) (bytes : Bytes damaged) (shape : Shape) (at : ℕ) (whole : header_of damaged ≡ Whole shape at) where
+module _ (damaged : List ℕ) (bytes : Bytes damaged) (shape : Shape) (at : ℕ) (whole : header_of damaged ≡ Ok (shape, at)) where
   abbrev body : List ℕ
   body = drop at damaged
 
@@ -101,14 +100,14 @@ not_19 OutsideLimits e = omega (arith, e)
 not_19 BytesLeft e = omega (arith, e)
 
 -- where there is room for what is saved behind any whole header, 19 is not given
-room_enough : (damaged : List ℕ) (room : ℕ) → ((shape : Shape) (at : ℕ) → header_of damaged ≡ Whole shape at → length (saved_of shape (drop at damaged)).file ≤ room)
+room_enough : (damaged : List ℕ) (room : ℕ) → ((shape : Shape) (at : ℕ) → header_of damaged ≡ Ok (shape, at) → length (saved_of shape (drop at damaged)).file ≤ room)
     → salvage_of (header_of damaged) damaged room ≡ refused 19 → ⊥
 unfolding salvage_of
 room_enough damaged room fits e = go (header_of damaged) refl e
   where
     go : (h : Heading) → header_of damaged ≡ h → salvage_of (header_of damaged) damaged room ≡ refused 19 → ⊥
-    go (Faulty why) q f = not_19 why (number_same (sym (ap (λ (h : Heading). salvage_of h damaged room) q) ∙ f))
-    go (Whole shape at) q f = no_refusal (saved_answers damaged shape at q room (fits shape at q)) f
+    go (Err why) q f = not_19 why (number_same (sym (ap (λ (h : Heading). salvage_of h damaged room) q) ∙ f))
+    go (Ok (shape, at)) q f = no_refusal (saved_answers damaged shape at q room (fits shape at q)) f
 
 -- THEOREM. With as many bytes as the damaged file has, 19 is never given
 pub never_longer : NeverLonger
@@ -119,7 +118,7 @@ never_longer damaged before after o bytes room w e =
 pub longest_enough : LongestEnough
 longest_enough damaged room h e = room_enough damaged room fits e
   where
-    fits : (shape : Shape) (at : ℕ) → header_of damaged ≡ Whole shape at → length (saved_of shape (drop at damaged)).file ≤ room
+    fits : (shape : Shape) (at : ℕ) → header_of damaged ≡ Ok (shape, at) → length (saved_of shape (drop at damaged)).file ≤ room
     fits shape at q =
         let g = kept_good damaged shape at q in
         let l = g.limits in

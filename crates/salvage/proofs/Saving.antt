@@ -1,4 +1,5 @@
 -- What document 02 says of an accepted salvage: the file is valid, kept symbols begin the samples' bytes, and nothing is lost untold. Assumes nothing.
+use Rattle.std.specs.Prelude.{Ok, Err}
 use Prim.Native.Nat.{ℕ, ◌+◌, ◌-◌, ◌≤◌}
 use native.Mathlib.Omega.{arith}
 use mathlib.Core.Path.{◌≡◌, refl, sym, ap, subst, ◌∙◌}
@@ -7,10 +8,8 @@ use lib.ListN.{length, take, drop, length-take, length-drop}
 use lib.Seq.{take_at}
 use Rattle.replay.specs.Table.{answered}
 use Rattle.replay.proofs.Tables.{no_refusal, answers_none}
-use Rattle.sitting_file.specs.Format.{header_of}
+use Rattle.sitting_file.specs.Format.{Heading, header_of}
 use Rattle.sitting_file.specs.declared.Shape.{Shape}
-use Rattle.sitting_file.specs.declared.Heading.{Heading}
-use Rattle.sitting_file.specs.declared.Heading.TheVariants.{Whole, Faulty}
 use Rattle.sitting_file.proofs.Stages.{header_read}
 use Rattle.writing.specs.RoundTrips.{ReadsAs}
 use Rattle.writing.proofs.RoundTrip.{file_reads}
@@ -23,7 +22,7 @@ use Rattle.salvage.proofs.Answers.{kept_good}
 pub record Behind (damaged : List ℕ) (s : Saved) : Type 0 where
   pub shape : Shape
   pub place : ℕ
-  pub header : header_of damaged ≡ Whole shape place
+  pub header : header_of damaged ≡ Ok (shape, place)
   pub same : saved_of shape (drop place damaged) ≡ s
 
 pub behind : (damaged : List ℕ) (room : ℕ) (s : Saved) → answered s ≡ salvage_of (header_of damaged) damaged room → Behind damaged s
@@ -31,8 +30,8 @@ unfolding salvage_of
 behind damaged room s e = go (header_of damaged) refl e
   where
     go : (h : Heading) → header_of damaged ≡ h → answered s ≡ salvage_of h damaged room → Behind damaged s
-    go (Faulty why) q e = no_refusal refl e
-    go (Whole shape at) q e = record { shape = shape; place = at; header = q; same = (answers_none (salvage_lines (Whole shape at) damaged room) (saved_of shape (drop at damaged)) s (sym e)).1 }
+    go (Err why) q e = no_refusal refl e
+    go (Ok (shape, at)) q e = record { shape = shape; place = at; header = q; same = (answers_none (salvage_lines (Ok (shape, at)) damaged room) (saved_of shape (drop at damaged)) s (sym e)).1 }
 
 -- the saved file stands at the start of what is left
 pub file_at_start : (damaged before after : List ℕ) (s : Saved) → Salvages damaged before (answered s) after → take (length s.file) after ≡ s.file
@@ -46,7 +45,7 @@ made_up A wanted bytes h = omega (arith, kept_fits A bytes)
 made_there : (A : ℕ) (bytes : List ℕ) → length (kept_bytes A bytes) + (length bytes - length (kept_bytes A bytes)) ≡ length bytes
 made_there A bytes = omega (arith, kept_fits A bytes)
 
-module _ (damaged : List ℕ) (shape : Shape) (at : ℕ) (whole : header_of damaged ≡ Whole shape at) where
+module _ (damaged : List ℕ) (shape : Shape) (at : ℕ) (whole : header_of damaged ≡ Ok (shape, at)) where
   abbrev body : List ℕ
   body = drop at damaged
 

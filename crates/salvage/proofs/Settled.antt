@@ -1,4 +1,5 @@
 -- What the promise of a salvage settles: the answer, also that of the code, and every byte. Assumes nothing.
+use Rattle.std.specs.Prelude.{Ok, Err}
 use Prim.Native.Nat.{ℕ}
 use mathlib.Core.Path.{◌≡◌, refl, sym, ap, ap₂, ◌∙◌}
 use mathlib.Core.Bool.{cond}
@@ -9,11 +10,10 @@ use lib.Seq.{length-take-le}
 use Rattle.replay.specs.Table.{Outcome, refused, answered}
 use Rattle.replay.proofs.Tables.{no_refusal, number_same, answer_same}
 use Rattle.sitting_file.specs.declared.Refusal.TheVariants.{EndsEarly, NotShortest, OutsideLimits, BytesLeft}
-use Rattle.salvage.specs.Salvage.{Saved, refusal_number, salvage_outcome, Within, Salvages}
+use Rattle.salvage.specs.Salvage.{Salvaging, Saved, refusal_number, salvage_outcome, Within, Salvages}
 use Rattle.salvage.specs.declared.Refusal.{Refusal}
 use Rattle.salvage.specs.declared.Refusal.TheVariants.{Header, BufferShort}
-use Rattle.salvage.specs.declared.Salvaged.{Salvaged}
-use Rattle.salvage.specs.declared.Salvaged.TheVariants.{File, Refused}
+use Rattle.salvage.specs.declared.Lost.{Lost}
 
 module _ (damaged before : List ℕ) where
   -- THEOREM. Two results that one promise allows are equal
@@ -40,11 +40,11 @@ back (Header BytesLeft) = refl
 back BufferShort = refl
 
 -- THEOREM. No two answers of the code say the same beside the bytes left, so the promise settles the code's answer too
-pub one_salvage : (x y : Salvaged) (after : List ℕ) → Within x after → Within y after → salvage_outcome x after ≡ salvage_outcome y after → x ≡ y
-one_salvage (File n lost) (File m lost') after v w e =
+pub one_salvage : (x y : Salvaging) (after : List ℕ) → Within x after → Within y after → salvage_outcome x after ≡ salvage_outcome y after → x ≡ y
+one_salvage (Ok done) (Ok other) after v w e =
     let same = answer_same e in
-    let size : n ≡ m = sym (length-take-le n after v) ∙ ap (λ (s : Saved). length s.file) same ∙ length-take-le m after w in
-    ap₂ File size (ap (λ (s : Saved). s.lost) same)
-one_salvage (Refused v) (Refused w) after _ _ e = ap Refused (sym (back v) ∙ ap refusal_by (number_same e) ∙ back w)
-one_salvage (File n lost) (Refused w) after _ _ e = no_refusal refl e
-one_salvage (Refused v) (File m lost) after _ _ e = no_refusal e refl
+    let size : done.size ≡ other.size = sym (length-take-le done.size after v) ∙ ap (λ (s : Saved). length s.file) same ∙ length-take-le other.size after w in
+    ap₂ (λ (k : ℕ) (l : Lost). Ok (record { size = k; lost = l })) size (ap (λ (s : Saved). s.lost) same)
+one_salvage (Err v) (Err w) after _ _ e = ap Err (sym (back v) ∙ ap refusal_by (number_same e) ∙ back w)
+one_salvage (Ok done) (Err w) after _ _ e = no_refusal refl e
+one_salvage (Err v) (Ok done) after _ _ e = no_refusal e refl

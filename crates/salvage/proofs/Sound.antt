@@ -1,4 +1,5 @@
 -- "A sound file comes out the same, with zeros": its samples are below A, so all of their bytes are kept. Assumes nothing.
+use Rattle.std.specs.Prelude.{Ok}
 use Prim.Native.Nat.{ℕ, ◌+◌, ◌-◌}
 use native.Mathlib.Omega.{arith}
 use mathlib.Core.Path.{◌≡◌, refl, sym, ap, ap₂, ◌∙◌}
@@ -10,8 +11,6 @@ use Rattle.sitting_file.specs.Format.{header_of, read_of}
 use Rattle.sitting_file.specs.Samples.{first_of, second_of}
 use Rattle.sitting_file.specs.Verdict.{Bytes, written, with_header, OfFormat}
 use Rattle.sitting_file.specs.declared.Shape.{Shape}
-use Rattle.sitting_file.specs.declared.Heading.TheVariants.{Whole}
-use Rattle.sitting_file.specs.declared.Reading.TheVariants.{Accepted}
 use Rattle.sitting_file.proofs.AcceptedFile.{accepted_holds}
 use Rattle.sitting_file.proofs.AnswerOnly.{header_on}
 use Rattle.sitting_file.proofs.Answers.{answer_exactly}
@@ -33,7 +32,7 @@ none_gone A wanted bytes e f =
     let d : length bytes - length (kept_bytes A bytes) ≡ 0 = omega (arith, ap length e) in
     ap₂ (λ (x y : ℕ). record { missing = x; dropped = y }) m d
 
-module _ (file : List ℕ) (shape : Shape) (bytes : Bytes file) (e : read_of file ≡ Accepted shape) where
+module _ (file : List ℕ) (shape : Shape) (bytes : Bytes file) (e : read_of file ≡ Ok shape) where
   abbrev A : ℕ
   A = shape.alphabet
 
@@ -49,9 +48,9 @@ module _ (file : List ℕ) (shape : Shape) (bytes : Bytes file) (e : read_of fil
   abbrev ys : List ℕ
   ys = second_of file shape
 
-  sound_header : header_of file ≡ Whole shape at
+  sound_header : header_of file ≡ Ok (shape, at)
   sound_header =
-      let f : OfFormat file shape = (answer_exactly file bytes (Accepted shape)).0 (sym e) in
+      let f : OfFormat file shape = (answer_exactly file bytes (Ok shape)).0 (sym e) in
       header_on file shape f.symbols [] (f.bytes ∙ sym (append-nil (written (with_header shape f.symbols)))) (format_follow shape file f)
 
   -- the bytes after the header are the two samples

@@ -1,20 +1,15 @@
 -- What is saved of a damaged sitting file, what is told of the rest, and what a salvage answers and leaves (document 02, E12). Assumes nothing.
-use Rattle.std.specs.Prelude.{ℕ, ◌+◌, ◌-◌, ◌≤◌, ◌≡◌, true, cond, List, [], ◌∷◌, ◌++◌, ltb, length, take, drop}
+use Rattle.std.specs.Prelude.{ℕ, ◌+◌, ◌-◌, ◌≤◌, ◌≡◌, true, cond, List, [], ◌∷◌, ◌++◌, ltb, length, take, drop, Result, Ok, Err}
 use Rattle.replay.specs.Table.{Line, ◌when◌, Outcome, refused, answered, verdict_of}
-use Rattle.sitting_file.specs.Format.{header_of}
+use Rattle.sitting_file.specs.Format.{Heading, header_of}
 use Rattle.sitting_file.specs.Format as format
 use Rattle.sitting_file.specs.declared.Shape.{Shape}
-use Rattle.sitting_file.specs.declared.Heading.{Heading}
-use Rattle.sitting_file.specs.declared.Heading.TheVariants.{Whole, Faulty}
-use Rattle.writing.specs.Writing.{file_of}
-use Rattle.writing.specs.declared.Writing.{Writing}
-use Rattle.writing.specs.declared.Writing.TheVariants as writer
+use Rattle.writing.specs.Writing.{Writing, file_of}
 use Rattle.salvage.specs.declared.Gone.{Gone}
 use Rattle.salvage.specs.declared.Lost.{Lost}
 use Rattle.salvage.specs.declared.Refusal.{Refusal}
 use Rattle.salvage.specs.declared.Refusal.TheVariants.{Header, BufferShort}
 use Rattle.salvage.specs.declared.Salvaged.{Salvaged}
-use Rattle.salvage.specs.declared.Salvaged.TheVariants.{File, Refused}
 
 -- ---- what is kept
 
@@ -72,33 +67,37 @@ saved_of shape body = saved_from shape (first_bytes shape body) (second_bytes sh
 
 -- "13 to 15 for the header, then 19 for a short buffer": of so many bytes
 abbrev pub salvage_lines : Heading → List ℕ → ℕ → List Line
-salvage_lines (Faulty why) damaged room = format.refusal_number why when true ∷ []
-salvage_lines (Whole shape at) damaged room = 19 when ltb room (length (saved_of shape (drop at damaged)).file) ∷ []
+salvage_lines (Err why) damaged room = format.refusal_number why when true ∷ []
+salvage_lines (Ok (shape, at)) damaged room = 19 when ltb room (length (saved_of shape (drop at damaged)).file) ∷ []
 
 -- "A header of four numbers that cannot be read within limits is refused as the reader does"; otherwise what is saved of the bytes after it
 unfoldable pub salvage_of : Heading → List ℕ → ℕ → Outcome Saved
-salvage_of (Faulty why) damaged room = refused (format.refusal_number why)
-salvage_of (Whole shape at) damaged room = verdict_of (salvage_lines (Whole shape at) damaged room) (saved_of shape (drop at damaged))
+salvage_of (Err why) damaged room = refused (format.refusal_number why)
+salvage_of (Ok (shape, at)) damaged room = verdict_of (salvage_lines (Ok (shape, at)) damaged room) (saved_of shape (drop at damaged))
 
 -- the documents' number of each refusal
 abbrev pub refusal_number : Refusal → ℕ
 refusal_number (Header why) = format.refusal_number why
 refusal_number BufferShort = 19
 
+-- the answer to a salvage: what is salvaged, or why nothing is
+abbrev pub Salvaging : Type 0
+Salvaging = Result Salvaged Refusal
+
 -- the answer where the writer's to what is kept is this: it refuses too few bytes alone
-abbrev pub salvaged_by : Writing → Lost → Salvaged
-salvaged_by (writer.Length size) lost = File size lost
-salvaged_by (writer.Refused why) lost = Refused BufferShort
+abbrev pub salvaged_by : Writing → Lost → Salvaging
+salvaged_by (Ok size) lost = Ok (record { size = size; lost = lost })
+salvaged_by (Err why) lost = Err BufferShort
 
 -- what an answer says beside the bytes that were left: the file at their start and what is lost, or the refusal's number
-abbrev pub salvage_outcome : Salvaged → List ℕ → Outcome Saved
-salvage_outcome (File size lost) after = answered (record { file = take size after; lost = lost })
-salvage_outcome (Refused why) after = refused (refusal_number why)
+abbrev pub salvage_outcome : Salvaging → List ℕ → Outcome Saved
+salvage_outcome (Ok done) after = answered (record { file = take done.size after; lost = done.lost })
+salvage_outcome (Err why) after = refused (refusal_number why)
 
 -- so many bytes are there, so that an answer tells one size only
-abbrev pub Within : Salvaged → List ℕ → Type 0
-Within (File size lost) after = size ≤ length after
-Within (Refused why) after = Unit {0}
+abbrev pub Within : Salvaging → List ℕ → Type 0
+Within (Ok done) after = done.size ≤ length after
+Within (Err why) after = Unit {0}
 
 -- a salvage of the bytes `damaged` into the bytes `before`, which leaves `after`
 pub record Salvages (damaged before : List ℕ) (o : Outcome Saved) (after : List ℕ) : Type 0 where

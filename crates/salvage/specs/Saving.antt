@@ -1,5 +1,5 @@
 -- What document 02, E12, says of every salvage, and what follows. Proved in proofs/Saving, Sound, OnlySound, Refusing and Longer. Assumes nothing.
-use Rattle.std.specs.Prelude.{ℕ, ◌+◌, ◌-◌, ◌≤◌, ◌≡◌, ◌⊎◌, List, ◌++◌, length, take, drop}
+use Rattle.std.specs.Prelude.{ℕ, ◌+◌, ◌-◌, ◌≤◌, ◌≡◌, ◌⊎◌, List, ◌++◌, length, take, drop, Ok, Err}
 use Rattle.replay.specs.Table.{Outcome, refused, answered}
 use Rattle.sitting_file.specs.Format.{header_of, read_of}
 use Rattle.sitting_file.specs.Format as format
@@ -9,8 +9,6 @@ use Rattle.sitting_file.specs.Verdict.{Bytes}
 use Rattle.sitting_file.specs.declared.Shape.{Shape}
 use Rattle.sitting_file.specs.declared.Refusal as file
 use Rattle.sitting_file.specs.declared.Refusal.TheVariants.{BytesLeft}
-use Rattle.sitting_file.specs.declared.Heading.TheVariants.{Whole, Faulty}
-use Rattle.sitting_file.specs.declared.Reading.TheVariants.{Accepted, Refused}
 use Rattle.writing.specs.RoundTrips.{ReadsAs}
 use Rattle.salvage.specs.Salvage.{first_bytes, second_bytes, Saved, salvage_of, Salvages}
 use Rattle.salvage.specs.declared.Lost.{Lost}
@@ -28,7 +26,7 @@ pub record Beginning (A : ℕ) (bytes kept : List ℕ) : Type 0 where
 pub record Saves (damaged : List ℕ) (s : Saved) (after : List ℕ) : Type 0 where
   pub shape : Shape
   pub place : ℕ
-  pub header : header_of damaged ≡ Whole shape place
+  pub header : header_of damaged ≡ Ok (shape, place)
   pub first : List ℕ
   pub second : List ℕ
   -- "The tool writes a valid file with the shorter lengths": the reader accepts it, with the same A and D
@@ -52,30 +50,30 @@ nothing_lost = record { first = record { missing = 0; dropped = 0 }; second = re
 
 -- "A sound file comes out the same, with zeros.", wherever as many bytes are lent
 abbrev pub SoundSame : Type 0
-SoundSame = (file : List ℕ) (shape : Shape) → Bytes file → read_of file ≡ Accepted shape
+SoundSame = (file : List ℕ) (shape : Shape) → Bytes file → read_of file ≡ Ok shape
     → (before after : List ℕ) (o : Outcome Saved) → length file ≤ length before → Salvages file before o after
     → (o ≡ answered (record { file = file; lost = nothing_lost })) × (after ≡ file ++ drop (length file) before)
 
 -- and no other file comes out with zeros
 abbrev pub OnlySound : Type 0
 OnlySound = (damaged before after : List ℕ) (s : Saved) → Bytes damaged → Salvages damaged before (answered s) after → s.lost ≡ nothing_lost
-    → (s.file ≡ damaged) × ((shape : Shape) × (read_of damaged ≡ Accepted shape))
+    → (s.file ≡ damaged) × ((shape : Shape) × (read_of damaged ≡ Ok shape))
 
 -- ---- refusals
 
 -- an answer to a file with such a fault in its header: the number that the reader gives the file, which is not 16
 pub record RefusedAsRead (damaged : List ℕ) (why : file.Refusal) (o : Outcome Saved) : Type 0 where
   pub same_number : o ≡ refused (format.refusal_number why)
-  pub read_so : read_of damaged ≡ Refused why
+  pub read_so : read_of damaged ≡ Err why
   pub not_16 : why ≡ BytesLeft → ⊥
 
 -- "A header of four numbers that cannot be read within limits is refused as the reader does"
 abbrev pub AsTheReader : Type 0
-AsTheReader = (damaged before after : List ℕ) (o : Outcome Saved) → Salvages damaged before o after → (why : file.Refusal) → header_of damaged ≡ Faulty why → RefusedAsRead damaged why o
+AsTheReader = (damaged before after : List ℕ) (o : Outcome Saved) → Salvages damaged before o after → (why : file.Refusal) → header_of damaged ≡ Err why → RefusedAsRead damaged why o
 
 -- "13 to 15 for the header, then 19": a refusal is the header's fault, or 19
 abbrev pub NoOther : Type 0
-NoOther = (damaged before after : List ℕ) (n : ℕ) → Salvages damaged before (refused n) after → ((why : file.Refusal) × (header_of damaged ≡ Faulty why) × (n ≡ format.refusal_number why)) ⊎ (n ≡ 19)
+NoOther = (damaged before after : List ℕ) (n : ℕ) → Salvages damaged before (refused n) after → ((why : file.Refusal) × (header_of damaged ≡ Err why) × (n ≡ format.refusal_number why)) ⊎ (n ≡ 19)
 
 -- as many bytes as the damaged file has are never too few
 abbrev pub NeverLonger : Type 0

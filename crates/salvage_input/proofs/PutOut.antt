@@ -1,4 +1,5 @@
 -- What is put out of the bytes read, by the answer of the code: the file left at the start, and the line. Assumes nothing.
+use Rattle.std.specs.Prelude.{Ok, Err}
 use Prim.Native.Nat.{ℕ, ◌≤◌}
 use native.Mathlib.Omega.{arith}
 use mathlib.Core.Path.{◌≡◌, refl, sym, ap, subst, ◌∙◌}
@@ -10,12 +11,11 @@ use Rattle.replay.specs.Table.{Outcome, refused, answered}
 use Rattle.sitting_file.specs.Format.{header_of}
 use Rattle.sitting_file.specs.Input.{input_bytes}
 use Rattle.sitting_file.proofs.Stages.{header_read}
-use Rattle.salvage.specs.Salvage.{Saved, salvage_of, refusal_number, salvage_outcome, Within, Salvages}
+use Rattle.salvage.specs.Salvage.{Salvaging, Saved, salvage_of, refusal_number, salvage_outcome, Within, Salvages}
 use Rattle.salvage.specs.Saving.{lost_more, cut_more}
 use Rattle.salvage.specs.declared.Lost.{Lost}
 use Rattle.salvage.specs.declared.Refusal.{Refusal}
 use Rattle.salvage.specs.declared.Salvaged.{Salvaged}
-use Rattle.salvage.specs.declared.Salvaged.TheVariants.{File, Refused}
 use Rattle.salvage.proofs.Saving.{each_saves}
 use Rattle.printing.specs.Text.{refusal_text}
 use Rattle.printing.specs.Putting.{Printed}
@@ -41,33 +41,33 @@ file_printed before after file size h e left =
 -- ---- by the code's answer
 
 module _ (bytes file line : List ℕ) (room : length file ≡ input_bytes) (beyond : ℕ) (file' : List ℕ) where
-  abbrev Said : Salvaged → Type 0
+  abbrev Said : Salvaging → Type 0
   Said x = Salvages bytes file (salvage_outcome x file') file' × Within x file'
 
   -- what it says is what is salvaged of the bytes
-  says : (x : Salvaged) → Said x → salvage_outcome x file' ≡ saved_input bytes
+  says : (x : Salvaging) → Said x → salvage_outcome x file' ≡ saved_input bytes
   says x w = w.0.answers ∙ ap (salvage_of (header_of bytes) bytes) room
 
   -- a refusal and its line
-  pub refused_out : (x : Salvaged) (why : Refusal) (line' : List ℕ) (end : ℕ) → Said x → x ≡ Refused why → Printed (refusal_text (refusal_number why)) line line' end
+  pub refused_out : (x : Salvaging) (why : Refusal) (line' : List ℕ) (end : ℕ) → Said x → x ≡ Err why → Printed (refusal_text (refusal_number why)) line line' end
       → PutsOut (cut_more beyond (saved_input bytes)) file line (record { file = 0; line = end }) file' line'
   unfolding file_for line_for
   refused_out x why line' end w e p =
-      let same : refused (refusal_number why) ≡ saved_input bytes = sym (ap (λ (y : Salvaged). salvage_outcome y file') e) ∙ says x w in
-      let stays : file' ≡ file = w.0.refused_stays (refusal_number why) (ap (λ (y : Salvaged). salvage_outcome y file') e) in
+      let same : refused (refusal_number why) ≡ saved_input bytes = sym (ap (λ (y : Salvaging). salvage_outcome y file') e) ∙ says x w in
+      let stays : file' ≡ file = w.0.refused_stays (refusal_number why) (ap (λ (y : Salvaging). salvage_outcome y file') e) in
       subst (λ (o : Outcome Saved). PutsOut (cut_more beyond o) file line (record { file = 0; line = end }) file' line') same
       (record { its_file = subst (λ (l : List ℕ). Printed [] file l 0) (sym stays) (none_printed file); its_line = p })
 
   -- a saved file and the line of what was lost
-  pub saved_out : (x : Salvaged) (size : ℕ) (lost : Lost) (line' : List ℕ) (end : ℕ) → Said x → x ≡ File size lost → Printed (loss_text (lost_more beyond lost)) line line' end
-      → PutsOut (cut_more beyond (saved_input bytes)) file line (record { file = size; line = end }) file' line'
+  pub saved_out : (x : Salvaging) (done : Salvaged) (line' : List ℕ) (end : ℕ) → Said x → x ≡ Ok done → Printed (loss_text (lost_more beyond done.lost)) line line' end
+      → PutsOut (cut_more beyond (saved_input bytes)) file line (record { file = done.size; line = end }) file' line'
   unfolding file_for line_for
-  saved_out x size lost line' end w e p =
-      let s : Saved = record { file = take size file'; lost = lost } in
-      let said : salvage_outcome x file' ≡ answered s = ap (λ (y : Salvaged). salvage_outcome y file') e in
-      let within : size ≤ length file' = subst (λ (y : Salvaged). Within y file') e w.1 in
-      subst (λ (o : Outcome Saved). PutsOut (cut_more beyond o) file line (record { file = size; line = end }) file' line') (sym said ∙ says x w)
-      (record { its_file = file_printed file file' (take size file') size within refl (w.0.file_written s said); its_line = p })
+  saved_out x done line' end w e p =
+      let s : Saved = record { file = take done.size file'; lost = done.lost } in
+      let said : salvage_outcome x file' ≡ answered s = ap (λ (y : Salvaging). salvage_outcome y file') e in
+      let within : done.size ≤ length file' = subst (λ (y : Salvaging). Within y file') e w.1 in
+      subst (λ (o : Outcome Saved). PutsOut (cut_more beyond o) file line (record { file = done.size; line = end }) file' line') (sym said ∙ says x w)
+      (record { its_file = file_printed file file' (take done.size file') done.size within refl (w.0.file_written s said); its_line = p })
 
 -- at most as much as a sample may have
 abbrev FewLost : Lost → Type 0

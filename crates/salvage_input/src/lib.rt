@@ -1,19 +1,18 @@
 // What the program that salvages makes of its input: the saved file, and the line that tells what was lost.
 #![tactic(auto)]
 
-ghost use Rattle.std.specs.Prelude.{◌≡◌, min, ◌+◌, ◌≤◌, pos, length};
+ghost use Rattle.std.specs.Prelude.{◌≡◌, min, ◌+◌, ◌≤◌, pos};
 ghost use Rattle.numbers.specs.Limits.{longest};
-ghost use Rattle.sitting_file.specs.Input.{input_bytes};
 ghost use Rattle.printing.specs.Putting.{Printed};
 ghost use Rattle.salvage.specs.Saving.{lost_more};
 ghost use Rattle.salvage_input.specs.Filter.{most_told, loss_text, FiltersInput};
 
 use printing::{TEXT_BYTES, put_five, put_refusal};
-use salvage::{Lost, Salvaged};
+use salvage::Lost;
 use sitting_file::{INPUT_BYTES, judged_bytes};
 
-// How many bytes the saved file and the line have.
-#[derive(Clone, Copy)]
+// How many bytes the saved file and the line have, of the fixed memory that is lent for them (no heap is the project's rule).
+#[derive(Clone, Copy, Debug, PartialEq, Eq)]
 pub struct Lengths {
     pub file: usize,
     pub line: usize,
@@ -23,7 +22,7 @@ pub struct Lengths {
 pub const MOST_TOLD: u64 = 9223372036854775807;
 
 // Puts the file that is saved of a program's input and the line that tells what was lost at the start of the bytes lent. Of the input, `many` bytes
-// were read, and `beyond` were counted after them.
+// were read, and `beyond` were counted after them. What may not change: `FiltersInput` promises an answer to every `many`, so it is no slice.
 pub fn salvage_input(
     input: &[u8; INPUT_BYTES],
     many: usize,
@@ -33,29 +32,15 @@ pub fn salvage_input(
 ) -> Lengths
     ensures { FiltersInput input.now many beyond file.old line.old result file.new line.new }
 {
-    salvage_read(input, many, beyond, file, line)
-}
-
-// The same over slices: the bytes that were read are the damaged file.
-fn salvage_read(
-    input: &[u8],
-    many: usize,
-    beyond: u64,
-    file: &mut [u8],
-    line: &mut [u8; TEXT_BYTES],
-) -> Lengths
-    requires { (length input.now ≡ input_bytes) × (length file.old ≡ input_bytes) }
-    ensures { FiltersInput input.now many beyond file.old line.old result file.new line.new }
-{
     let end = judged_bytes(many);
     match salvage::salvage(&input[..end], file) {
-        Salvaged::Refused(why) => Lengths {
-            file: 0,
-            line: put_refusal(line, salvage::refusal_number(why)),
+        Ok(done) => Lengths {
+            file: done.size,
+            line: put_losses(line, done.lost, beyond),
         },
-        Salvaged::File(size, lost) => Lengths {
-            file: size,
-            line: put_losses(line, lost, beyond),
+        Err(why) => Lengths {
+            file: 0,
+            line: put_refusal(line, u32::from(why)),
         },
     }
 }
@@ -78,11 +63,5 @@ fn put_losses(line: &mut [u8; TEXT_BYTES], lost: Lost, beyond: u64) -> usize
 fn cut_told(cut: u64, beyond: u64) -> i64
     ensures { result ≡ pos (min (cut + beyond) most_told) }
 {
-    if MOST_TOLD < cut {
-        return MOST_TOLD as i64;
-    }
-    if MOST_TOLD - cut < beyond {
-        return MOST_TOLD as i64;
-    }
-    (cut + beyond) as i64
+    cut.saturating_add(beyond).min(MOST_TOLD) as i64
 }

@@ -5,28 +5,29 @@
 ghost use Rattle.std.specs.Prelude.{◌≤◌};
 
 use printing::TEXT_BYTES;
-use salvage_input::MOST_TOLD;
+use salvage_input::{MOST_TOLD, salvage_input};
 use sitting_file::INPUT_BYTES;
 use std::io::Read;
 use streams::{read_full, write_full};
 
 // How many bytes are read at a time to be counted.
-const PIECE: u64 = 65536;
+const PIECE: usize = 65536;
 
 // How many bytes the next reading finds: a piece, or fewer where the input ends.
-fn count_piece<R: Read>(input: &mut R) -> u64
-    ensures { result ≤ 65536 }
+fn count_piece<R: Read>(input: &mut R) -> usize
+    ensures { result ≤ PIECE }
 {
-    let mut space = [0u8; 65536];
-    read_full(input, &mut space) as u64
+    let mut space = [0u8; PIECE];
+    read_full(input, &mut space)
 }
 
-// How many bytes of an input follow those that filled the buffer. A proved loop has to end: this one does where more would not be told.
+// How many bytes of an input follow those that filled the buffer. A proved loop has to end: this one does where more would not be told. `io::copy` into
+// a sink does not serve: where a reading fails it does not say how many bytes it found before.
 fn count_beyond<R: Read>(input: &mut R) -> u64 {
     let mut counted: u64 = 0;
     while counted < MOST_TOLD {
         let piece = count_piece(input);
-        counted += piece;
+        counted += piece as u64;
         if piece < PIECE {
             break;
         }
@@ -47,12 +48,11 @@ fn main(rt: HostRuntime) {
     };
     let mut file = [0u8; INPUT_BYTES];
     let mut line = [0u8; TEXT_BYTES];
-    let ends = salvage_input::salvage_input(&input, many, beyond, &mut file, &mut line);
-    let file_end = ends.file;
-    let line_end = ends.line;
-    if write_full(&mut rt.stdout(), &file[..file_end]) {
-        write_full(&mut rt.stderr(), &line[..line_end]);
+    let ends = salvage_input(&input, many, beyond, &mut file, &mut line);
+    let told: &[u8] = if write_full(&mut rt.stdout(), &file[..ends.file]) {
+        &line[..ends.line]
     } else {
-        write_full(&mut rt.stderr(), b"the saved file could not be written\n");
-    }
+        b"the saved file could not be written\n"
+    };
+    write_full(&mut rt.stderr(), told);
 }

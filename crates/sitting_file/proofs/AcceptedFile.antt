@@ -1,4 +1,5 @@
 -- An accepted file's last n + m bytes are its symbols, one each, all below A. Assumes nothing.
+use Rattle.std.specs.Prelude.{Ok, Err}
 use Prim.Native.Nat.{ℕ, zero, suc, ◌+◌, ◌-◌, ◌<◌, ◌≤◌}
 use mathlib.Core.Path.{◌≡◌, refl, ap, subst, ◌∙◌}
 use mathlib.Core.Bool.{Bool, true, false, cond}
@@ -8,62 +9,57 @@ use lib.ListN.{length, get_or, take, drop, length-drop}
 use lib.Seq.{get_or-drop, get_or-take, length-take-le}
 use lib.Dec.{ltb}
 use borrow.Author.Tests.{ltb-false}
-use Rattle.sitting_file.specs.Format.{number_at, and_then, header_of, symbols_from, body_of, read_of}
+use Rattle.sitting_file.specs.Format.{number_at, and_then, header_of, symbols_from, body_of, read_of, Heading, Number, Reading}
 use Rattle.sitting_file.specs.Samples.{InLimits, last_symbols, longest_header, Holds}
 use Rattle.sitting_file.specs.declared.Shape.{Shape}
 use Rattle.sitting_file.specs.declared.Refusal.{Refusal}
 use Rattle.sitting_file.specs.declared.Refusal.TheVariants.{BytesLeft}
-use Rattle.sitting_file.specs.declared.Number.{Number}
-use Rattle.sitting_file.specs.declared.Number.TheVariants.{Value, Fault}
-use Rattle.sitting_file.specs.declared.Heading.{Heading}
-use Rattle.sitting_file.specs.declared.Heading.TheVariants.{Whole, Faulty}
-use Rattle.sitting_file.specs.declared.Reading.TheVariants.{Accepted, Refused}
 use Rattle.numbers.proofs.Orders.{less, same, more, order}
 use Rattle.sitting_file.proofs.Groups.{number_found}
 use Rattle.sitting_file.proofs.Stages.{header_read}
 
-pub never : {B : Type 0} {why : Refusal} {shape : Shape} → Refused why ≡ Accepted shape → B
+pub never : {B : Type 0} {why : Refusal} {shape : Shape} → ◌≡◌ {A = Reading} (Err why) (Ok shape) → B
 never e =
     let z : ◌≡◌ {A = ℕ} 0 1 = cc in
     absurd (omega arith)
 
-shape_same : {s t : Shape} → Accepted s ≡ Accepted t → s ≡ t
+shape_same : {s t : Shape} → ◌≡◌ {A = Reading} (Ok s) (Ok t) → s ≡ t
 shape_same e = cc
 
 module _ (file : List ℕ) (shape told : Shape) where
   -- what is accepted is what the header announced
-  pub announced : (left at : ℕ) → symbols_from file shape left at ≡ Accepted told → shape ≡ told
+  pub announced : (left at : ℕ) → symbols_from file shape left at ≡ Ok told → shape ≡ told
   unfolding symbols_from
   announced zero at e = go (ltb at (length file)) e
     where
-      go : (t : Bool) → cond t (Refused BytesLeft) (Accepted shape) ≡ Accepted told → shape ≡ told
+      go : (t : Bool) → cond t (Err BytesLeft) (Ok shape) ≡ Ok told → shape ≡ told
       go true e = never e
       go false e = shape_same e
   announced (suc left) at e = go (number_at file at 0 (shape.alphabet - 1)) (announced left) e
     where
-      go : (n : Number) → ((next : ℕ) → symbols_from file shape left next ≡ Accepted told → shape ≡ told) → and_then n Refused (λ _ next. symbols_from file shape left next) ≡ Accepted told → shape ≡ told
-      go (Value v next) onward e = onward next e
-      go (Fault why) onward e = never e
+      go : (n : Number) → ((next : ℕ) → symbols_from file shape left next ≡ Ok told → shape ≡ told) → and_then n Err (λ _ next. symbols_from file shape left next) ≡ Ok told → shape ≡ told
+      go (Ok (v, next)) onward e = onward next e
+      go (Err why) onward e = never e
 
   -- the symbols that are left take the rest of the file, a byte each
   record Ended (left at : ℕ) : Type 0 where
     ends : at + left ≡ length file
     below : (i : ℕ) → at ≤ i → i < length file → get_or file i 0 < shape.alphabet
 
-  symbols_accepted : InLimits shape → (left at : ℕ) → at ≤ length file → symbols_from file shape left at ≡ Accepted told → Ended left at
+  symbols_accepted : InLimits shape → (left at : ℕ) → at ≤ length file → symbols_from file shape left at ≡ Ok told → Ended left at
   unfolding symbols_from
   symbols_accepted l zero at h e = go (ltb at (length file)) refl e
     where
-      go : (t : Bool) → ltb at (length file) ≡ t → cond t (Refused BytesLeft) (Accepted shape) ≡ Accepted told → Ended zero at
+      go : (t : Bool) → ltb at (length file) ≡ t → cond t (Err BytesLeft) (Ok shape) ≡ Ok told → Ended zero at
       go true t e = never e
       go false t e =
           let done : length file ≤ at = ltb-false at (length file) t in
           record { ends = omega arith; below = λ i g k. absurd (omega arith) }
   symbols_accepted l (suc left) at h e = go (number_at file at 0 (shape.alphabet - 1)) refl (symbols_accepted l left) e
     where
-      go : (n : Number) → number_at file at 0 (shape.alphabet - 1) ≡ n → ((next : ℕ) → next ≤ length file → symbols_from file shape left next ≡ Accepted told → Ended left next) → and_then n Refused (λ _ next. symbols_from file shape left next) ≡ Accepted told → Ended (suc left) at
-      go (Fault why) q onward e = never e
-      go (Value v next) q onward e =
+      go : (n : Number) → number_at file at 0 (shape.alphabet - 1) ≡ n → ((next : ℕ) → next ≤ length file → symbols_from file shape left next ≡ Ok told → Ended left next) → and_then n Err (λ _ next. symbols_from file shape left next) ≡ Ok told → Ended (suc left) at
+      go (Err why) q onward e = never e
+      go (Ok (v, next)) q onward e =
           let f = number_found 0 (shape.alphabet - 1) at v next file q in
           let high = l.alphabet_high in
           let low = l.alphabet_low in
@@ -113,13 +109,13 @@ module _ (file : List ℕ) (shape : Shape) (at : ℕ) (ends : at + (shape.first 
         second_below = λ i h. rw (get_or-drop n ss i 0, symbol (n + i)) (below (at + (n + i)) (omega arith) (omega arith));
       }
 
-pub accepted_holds : (file : List ℕ) (shape : Shape) → read_of file ≡ Accepted shape → Holds file shape
+pub accepted_holds : (file : List ℕ) (shape : Shape) → read_of file ≡ Ok shape → Holds file shape
 unfolding body_of
 accepted_holds file shape e = go (header_of file) refl e
   where
-    go : (h : Heading) → header_of file ≡ h → body_of file h ≡ Accepted shape → Holds file shape
-    go (Faulty why) q e = never e
-    go (Whole read at) q e =
+    go : (h : Heading) → header_of file ≡ h → body_of file h ≡ Ok shape → Holds file shape
+    go (Err why) q e = never e
+    go (Ok (read, at)) q e =
         let h = header_read file read at q in
         let r = symbols_accepted file read shape h.limits (read.first + read.second) at h.ends e in
         subst (Holds file) (announced file read shape (read.first + read.second) at e) (holds file read at r.ends h.limits h.place r.below)

@@ -1,5 +1,6 @@
 -- No answer but that of `read_of` is true of the file: numbers within their limits are read, one after another, and a fault is found at its place.
 -- Assumes nothing.
+use Rattle.std.specs.Prelude.{Ok, Err}
 use Prim.Native.Nat.{ℕ, ◌+◌, ◌-◌, ◌<◌, ◌≤◌}
 use mathlib.Core.Path.{◌≡◌, refl, sym, ap, subst, ◌∙◌}
 use mathlib.Core.Bool.{Bool, true, false, cond}
@@ -10,15 +11,11 @@ use lib.Seq.{drop-append_seam}
 use lib.Dec.{ltb}
 use borrow.Author.Tests.{ltb-true, ltb-false}
 use Rattle.numbers.specs.Limits.{most_symbols, longest}
-use Rattle.sitting_file.specs.Format.{first_group, number_at, header_of, symbols_from, body_of, read_of}
+use Rattle.sitting_file.specs.Format.{first_group, number_at, header_of, symbols_from, body_of, read_of, Reading}
 use Rattle.sitting_file.specs.Verdict.{two_groups, shortest, written, with_header, from_to, nothing, due_after, Follow, FaultAt, Verdict}
 use Rattle.sitting_file.specs.declared.Shape.{Shape}
 use Rattle.sitting_file.specs.declared.Refusal.{Refusal}
 use Rattle.sitting_file.specs.declared.Refusal.TheVariants.{EndsEarly, NotShortest, OutsideLimits, BytesLeft}
-use Rattle.sitting_file.specs.declared.Number.TheVariants.{Value, Fault}
-use Rattle.sitting_file.specs.declared.Heading.TheVariants.{Whole}
-use Rattle.sitting_file.specs.declared.Reading.{Reading}
-use Rattle.sitting_file.specs.declared.Reading.TheVariants.{Accepted, Refused}
 use Rattle.sitting_file.proofs.Places.{inside, symbol_read, symbol_refused, more_bytes, all_read}
 use Rattle.sitting_file.proofs.Stages.{alphabet_refused, depth_refused, first_refused, second_refused, header_whole}
 use Rattle.sitting_file.proofs.Shortest.{read_back, fault_found}
@@ -30,18 +27,18 @@ place us = length (written us)
 
 module _ (file : List ℕ) where
   -- a number within its limits is found
-  found : (us : List ℕ) (v : ℕ) (vs rest : List ℕ) (low high : ℕ) → file ≡ written (us ++ v ∷ vs) ++ rest → high < two_groups → low ≤ v → v ≤ high → number_at file (place us) low high ≡ Value v (place (us ++ v ∷ []))
+  found : (us : List ℕ) (v : ℕ) (vs rest : List ℕ) (low high : ℕ) → file ≡ written (us ++ v ∷ vs) ++ rest → high < two_groups → low ≤ v → v ≤ high → number_at file (place us) low high ≡ Ok (v, place (us ++ v ∷ []))
   found us v vs rest low high e h l k =
       let whole : file ≡ written us ++ (shortest v ++ (written vs ++ rest)) = e ∙ rw (written_append us (v ∷ vs)) (simp append_assoc) in
       let here : drop (place us) file ≡ shortest v ++ (written vs ++ rest) = ap (drop (place us)) whole ∙ drop-append_seam (written us) _ in
       let end : place us + length (shortest v) ≡ place (us ++ v ∷ []) = rw (written_append us (v ∷ [])) (simp (length-append, append-nil)) in
-      ap (first_group low high (place us)) here ∙ read_back low high (place us) v (written vs ++ rest) (omega arith) ∙ inside low high v _ l k ∙ ap (Value v) end
+      ap (first_group low high (place us)) here ∙ read_back low high (place us) v (written vs ++ rest) (omega arith) ∙ inside low high v _ l k ∙ ap (λ (k : ℕ). Ok (v, k)) end
 
-  fault_at : (us rest : List ℕ) (low high : ℕ) (why : Refusal) → file ≡ written us ++ rest → FaultAt why (from_to low high) rest → number_at file (place us) low high ≡ Fault why
+  fault_at : (us rest : List ℕ) (low high : ℕ) (why : Refusal) → file ≡ written us ++ rest → FaultAt why (from_to low high) rest → number_at file (place us) low high ≡ Err why
   fault_at us rest low high why e f = ap (first_group low high (place us)) (ap (drop (place us)) e ∙ drop-append_seam (written us) rest) ∙ fault_found why low high (place us) rest f
 
   -- the header is read, whatever stands after it
-  pub header_on : (shape : Shape) (ss rest : List ℕ) → file ≡ written (with_header shape ss) ++ rest → Follow [] (with_header shape ss) → header_of file ≡ Whole shape (place (with_header shape []))
+  pub header_on : (shape : Shape) (ss rest : List ℕ) → file ≡ written (with_header shape ss) ++ rest → Follow [] (with_header shape ss) → header_of file ≡ Ok (shape, place (with_header shape []))
   header_on shape ss rest e f =
       let A = shape.alphabet in
       let D = shape.depth in
@@ -78,23 +75,23 @@ module _ (file : List ℕ) where
         ap (body_of file) (header_on shape ss rest e f) ∙ ap (λ (k : ℕ). symbols_from file shape k (place (with_header shape []))) none ∙ symbols_on [] ss rest f.0.1 e f.1.1.1.1
 
     -- a fault where a symbol or the end should stand
-    symbols_faulty : (ss rest : List ℕ) (why : Refusal) → file ≡ written (with_header shape ss) ++ rest → FaultAt why (due_after (with_header shape ss)) rest → left ss ≡ Refused why
+    symbols_faulty : (ss rest : List ℕ) (why : Refusal) → file ≡ written (with_header shape ss) ++ rest → FaultAt why (due_after (with_header shape ss)) rest → left ss ≡ Err why
     unfolding left
     symbols_faulty ss rest why e f = go (ltb (length ss) wanted) refl f
       where
-        left_over : (w : Refusal) → wanted ≤ length ss → FaultAt w nothing rest → left ss ≡ Refused w
+        left_over : (w : Refusal) → wanted ≤ length ss → FaultAt w nothing rest → left ss ≡ Err w
         left_over BytesLeft h g = more_bytes file shape (wanted - length ss) (place (with_header shape ss)) (omega arith) (omega (arith, ap length e, length-append (written (with_header shape ss)) rest, ap length g.2))
         left_over EndsEarly h g = absurd g
         left_over NotShortest h g = absurd g
         left_over OutsideLimits h g = absurd g
 
-        go : (t : Bool) → ltb (length ss) wanted ≡ t → FaultAt why (cond t (from_to 0 (shape.alphabet - 1)) nothing) rest → left ss ≡ Refused why
+        go : (t : Bool) → ltb (length ss) wanted ≡ t → FaultAt why (cond t (from_to 0 (shape.alphabet - 1)) nothing) rest → left ss ≡ Err why
         go true t g =
             let due : length ss < wanted = ltb-true _ _ t in
             symbol_refused file shape (wanted - length ss) _ why (omega arith) (fault_at (with_header shape ss) rest 0 (shape.alphabet - 1) why e g)
         go false t g = left_over why (ltb-false _ _ t) g
 
-  refused_only : (why : Refusal) (before rest : List ℕ) → file ≡ written before ++ rest → Follow [] before → FaultAt why (due_after before) rest → read_of file ≡ Refused why
+  refused_only : (why : Refusal) (before rest : List ℕ) → file ≡ written before ++ rest → Follow [] before → FaultAt why (due_after before) rest → read_of file ≡ Err why
   unfolding body_of
   refused_only why [] rest e f g = ap (body_of file) (alphabet_refused longest file why (fault_at [] rest _ _ why e g))
   refused_only why (A ∷ []) rest e f g =
@@ -111,7 +108,7 @@ module _ (file : List ℕ) where
       let shape : Shape = record { alphabet = A; depth = D; first = n; second = m } in
       body_on shape ss rest e f ∙ symbols_faulty shape ss rest why e g
 
-  accepted_only : (shape : Shape) (ss : List ℕ) → file ≡ written (with_header shape ss) → Follow [] (with_header shape ss) → length ss ≡ shape.first + shape.second → read_of file ≡ Accepted shape
+  accepted_only : (shape : Shape) (ss : List ℕ) → file ≡ written (with_header shape ss) → Follow [] (with_header shape ss) → length ss ≡ shape.first + shape.second → read_of file ≡ Ok shape
   unfolding left
   accepted_only shape ss e f h =
       let whole : file ≡ written (with_header shape ss) ++ [] = e ∙ sym (append-nil (written (with_header shape ss))) in
@@ -119,5 +116,5 @@ module _ (file : List ℕ) where
 
   -- no other answer is true of the file
   pub answer_only : (answer : Reading) → Verdict file answer → answer ≡ read_of file
-  answer_only (Accepted shape) v = sym (accepted_only shape v.symbols v.bytes (format_follow shape file v) v.count)
-  answer_only (Refused why) v = sym (refused_only why v.before v.rest v.split v.follow v.fault)
+  answer_only (Ok shape) v = sym (accepted_only shape v.symbols v.bytes (format_follow shape file v) v.count)
+  answer_only (Err why) v = sym (refused_only why v.before v.rest v.split v.follow v.fault)

@@ -1,5 +1,6 @@
 -- Every answer of `read_of` is true of the file: reading goes from place to place, and the numbers before each are whole and within their limits.
 -- Assumes nothing.
+use Rattle.std.specs.Prelude.{Ok, Err}
 use Prim.Native.Nat.{ℕ, zero, suc, ◌+◌, ◌-◌}
 use mathlib.Core.Path.{◌≡◌, refl, sym, ap, subst, ◌∙◌}
 use mathlib.Core.List.{List, [], ◌∷◌, ◌++◌, append-nil}
@@ -8,15 +9,10 @@ use lib.ListN.{length, drop, length-append}
 use lib.Seq.{drop_at}
 use borrow.Author.Tests.{lt-ltb, le-ltb}
 use Rattle.numbers.specs.Limits.{fewest_symbols, most_symbols, deepest, longest}
-use Rattle.sitting_file.specs.Format.{first_group, number_at, and_then, header_up_to, header_of, symbols_from, body_of, read_of}
+use Rattle.sitting_file.specs.Format.{first_group, number_at, and_then, header_up_to, header_of, symbols_from, body_of, read_of, Heading, Number}
 use Rattle.sitting_file.specs.Verdict.{Bytes, shortest, written, with_header, Due, from_to, due_after, MeetsDue, Follow, FaultAt, FaultIn, Verdict}
 use Rattle.sitting_file.specs.declared.Shape.{Shape}
 use Rattle.sitting_file.specs.declared.Refusal.{Refusal}
-use Rattle.sitting_file.specs.declared.Number.{Number}
-use Rattle.sitting_file.specs.declared.Number.TheVariants.{Value, Fault}
-use Rattle.sitting_file.specs.declared.Heading.{Heading}
-use Rattle.sitting_file.specs.declared.Heading.TheVariants.{Whole, Faulty}
-use Rattle.sitting_file.specs.declared.Reading.TheVariants.{Refused}
 use Rattle.sitting_file.proofs.Shortest.{Says, number_says}
 use Rattle.sitting_file.proofs.Written.{written_append, written_more, follow_more, follow_format}
 
@@ -38,8 +34,8 @@ module _ (file : List ℕ) where
     step before at low high e r go onward = subst (λ (l : List ℕ). P (and_then (first_group low high at l) stop go)) (sym (here before at r)) (by (first_group low high at r.rest) (number_says low high at r.rest r.bytes))
       where
         by : (n : Number) → Says low high at r.rest n → P (and_then n stop go)
-        by (Fault why) f = stopped why (record { before = before; rest = r.rest; split = r.split; follow = r.follow; fault = subst (λ (d : Due). FaultAt why d r.rest) (sym e) f })
-        by (Value v next) s =
+        by (Err why) f = stopped why (record { before = before; rest = r.rest; split = r.split; follow = r.follow; fault = subst (λ (d : Due). FaultAt why d r.rest) (sym e) f })
+        by (Ok (v, next)) s =
             let f = s.0 in
             let long : length (written (before ++ v ∷ [])) ≡ length (written before) + length (shortest v) = rw (written_append before (v ∷ [])) (simp (length-append, append-nil)) in
             let placed : next ≡ length (written before) + length (shortest v) = f.place ∙ ap (λ (k : ℕ). k + length (shortest v)) r.place in
@@ -67,30 +63,30 @@ module _ (file : List ℕ) where
           rw (lt-ltb at (length file) (omega arith))
           (record { before = with_header shape ss; rest = b ∷ more; split = e; follow = r.follow; fault = rw (le-ltb (length ss) (shape.first + shape.second) (omega arith)) (b, more, refl) })
   symbols_true shape ss (suc left) at h r =
-      step (Verdict file) Refused (λ why f. f) (with_header shape ss) at 0 (shape.alphabet - 1) (rw (lt-ltb (length ss) (shape.first + shape.second) (omega arith))) r (λ _ next. symbols_from file shape left next)
+      step (Verdict file) Err (λ why f. f) (with_header shape ss) at 0 (shape.alphabet - 1) (rw (lt-ltb (length ss) (shape.first + shape.second) (omega arith))) r (λ _ next. symbols_from file shape left next)
       (λ v next q. symbols_true shape (ss ++ v ∷ []) left next (simp length-append (omega arith)) q)
 
   -- a header is a place, or stops at the fault
   Heads : Heading → Type 0
-  Heads (Whole shape at) = Reached file (with_header shape []) at
-  Heads (Faulty why) = FaultIn file why
+  Heads (Ok (shape, at)) = Reached file (with_header shape []) at
+  Heads (Err why) = FaultIn file why
 
   header_true : Bytes file → Heads (header_of file)
   unfolding header_up_to Heads
   header_true bytes =
-      step Heads Faulty (λ why f. f) [] 0 fewest_symbols most_symbols refl (record { rest = file; split = refl; place = refl; follow = tt; bytes = bytes }) _
-      (λ A at₁ q₁. step Heads Faulty (λ why f. f) (A ∷ []) at₁ 0 deepest refl q₁ _
-      (λ D at₂ q₂. step Heads Faulty (λ why f. f) (A ∷ D ∷ []) at₂ 0 longest refl q₂ _
-      (λ n at₃ q₃. step Heads Faulty (λ why f. f) (A ∷ D ∷ n ∷ []) at₃ 0 longest refl q₃ _
+      step Heads Err (λ why f. f) [] 0 fewest_symbols most_symbols refl (record { rest = file; split = refl; place = refl; follow = tt; bytes = bytes }) _
+      (λ A at₁ q₁. step Heads Err (λ why f. f) (A ∷ []) at₁ 0 deepest refl q₁ _
+      (λ D at₂ q₂. step Heads Err (λ why f. f) (A ∷ D ∷ []) at₂ 0 longest refl q₂ _
+      (λ n at₃ q₃. step Heads Err (λ why f. f) (A ∷ D ∷ n ∷ []) at₃ 0 longest refl q₃ _
       (λ m at₄ q₄. q₄))))
 
   -- a whole header ends where its four numbers in their shortest forms do
-  pub header_place : Bytes file → (shape : Shape) (at : ℕ) → header_of file ≡ Whole shape at → at ≡ length (written (with_header shape []))
+  pub header_place : Bytes file → (shape : Shape) (at : ℕ) → header_of file ≡ Ok (shape, at) → at ≡ length (written (with_header shape []))
   unfolding Heads
   header_place bytes shape at e = (subst Heads e (header_true bytes)).place
 
   -- and the file is these and the bytes behind them
-  pub header_bytes : Bytes file → (shape : Shape) (at : ℕ) → header_of file ≡ Whole shape at → file ≡ written (with_header shape []) ++ drop at file
+  pub header_bytes : Bytes file → (shape : Shape) (at : ℕ) → header_of file ≡ Ok (shape, at) → file ≡ written (with_header shape []) ++ drop at file
   unfolding Heads
   header_bytes bytes shape at e =
       let r = subst Heads e (header_true bytes) in
@@ -101,5 +97,5 @@ module _ (file : List ℕ) where
   answer_true bytes = go (header_of file) (header_true bytes)
     where
       go : (h : Heading) → Heads h → Verdict file (body_of file h)
-      go (Whole shape at) r = symbols_true shape [] (shape.first + shape.second) at (omega arith) r
-      go (Faulty why) f = f
+      go (Ok (shape, at)) r = symbols_true shape [] (shape.first + shape.second) at (omega arith) r
+      go (Err why) f = f

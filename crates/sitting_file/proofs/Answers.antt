@@ -3,9 +3,8 @@ use mathlib.Core.Path.{◌≡◌, sym, subst}
 use mathlib.Core.Logic.{◌↔◌}
 use Prim.Native.Nat.{ℕ}
 use mathlib.Core.List.{List}
-use Rattle.sitting_file.specs.Format.{read_of}
+use Rattle.sitting_file.specs.Format.{read_of, Reading}
 use Rattle.sitting_file.specs.Verdict.{Bytes, Verdict}
-use Rattle.sitting_file.specs.declared.Reading.{Reading}
 use Rattle.sitting_file.proofs.AnswerTrue.{answer_true}
 use Rattle.sitting_file.proofs.AnswerOnly.{answer_only}
 

@@ -1,34 +1,33 @@
 -- Files and their answers, by computation: document 01's own file, and the cases that its words on refusals leave a reader to settle.
 -- Assumes nothing.
+use Rattle.std.specs.Prelude.{Ok, Err}
 use Prim.Native.Nat.{ℕ, ◌+◌}
 use mathlib.Core.Path.{◌≡◌, refl}
 use mathlib.Core.List.{List, [], ◌∷◌, map}
 use lib.ListN.{replicate}
 use Rattle.numbers.specs.Limits.{longest}
-use Rattle.sitting_file.specs.Format.{judged_number, second_group, first_group, header_up_to, symbols_from, body_of, read_up_to, read_of, refusal_number}
+use Rattle.sitting_file.specs.Format.{judged_number, second_group, first_group, header_up_to, symbols_from, body_of, read_up_to, read_of, refusal_number, Reading}
 use Rattle.sitting_file.specs.Verdict.{shortest}
 use Rattle.sitting_file.specs.declared.Refusal.TheVariants.{EndsEarly, NotShortest, OutsideLimits, BytesLeft}
-use Rattle.sitting_file.specs.declared.Reading.{Reading}
-use Rattle.sitting_file.specs.declared.Reading.TheVariants.{Accepted, Refused}
 
 pub record Example : Type 0 where
   pub file : List ℕ
   pub answer : Reading
 
 abbrev accepted : ℕ → ℕ → ℕ → ℕ → List ℕ → Example
-accepted A D n m file = record { file = file; answer = Accepted (record { alphabet = A; depth = D; first = n; second = m }) }
+accepted A D n m file = record { file = file; answer = Ok (record { alphabet = A; depth = D; first = n; second = m }) }
 
 abbrev ends_early : List ℕ → Example
-ends_early file = record { file = file; answer = Refused EndsEarly }
+ends_early file = record { file = file; answer = Err EndsEarly }
 
 abbrev not_shortest : List ℕ → Example
-not_shortest file = record { file = file; answer = Refused NotShortest }
+not_shortest file = record { file = file; answer = Err NotShortest }
 
 abbrev outside_limits_lem : List ℕ → Example
-outside_limits_lem file = record { file = file; answer = Refused OutsideLimits }
+outside_limits_lem file = record { file = file; answer = Err OutsideLimits }
 
 abbrev bytes_left : List ℕ → Example
-bytes_left file = record { file = file; answer = Refused BytesLeft }
+bytes_left file = record { file = file; answer = Err BytesLeft }
 
 abbrev pub examples : List Example
 examples =
@@ -79,7 +78,7 @@ unfolding shortest judged_number second_group first_group header_up_to symbols_f
 examples_right = refl
 
 -- a reader whose limit is 127 refuses the file of 128 symbols
-pub old_limit_right : read_up_to 127 (2 ∷ 1 ∷ 0x80 ∷ 1 ∷ 0 ∷ replicate 128 1) ≡ Refused OutsideLimits
+pub old_limit_right : read_up_to 127 (2 ∷ 1 ∷ 0x80 ∷ 1 ∷ 0 ∷ replicate 128 1) ≡ Err OutsideLimits
 unfolding judged_number second_group first_group header_up_to body_of
 old_limit_right = refl
 

@@ -1,4 +1,5 @@
 -- A number in the bytes from a place on, and what reading it tells: the one case analysis of `number_at`. Assumes nothing.
+use Rattle.std.specs.Prelude.{Ok, Err}
 use Prim.Native.Nat.{ℕ, suc, ◌+◌, ◌-◌, ◌<◌, ◌≤◌}
 use mathlib.Core.Path.{◌≡◌, refl, sym, ap, ap₂, ◌∙◌}
 use mathlib.Core.Logic.{◌⊎◌, inl, inr}
@@ -10,11 +11,9 @@ use lib.ListN.{length, get_or, drop, length-drop}
 use lib.Seq.{get_or-drop}
 use lib.Dec.{leb, eqb}
 use borrow.Author.Tests.{leb-true, leb-false, le-leb, lt-leb, eqb-true, eqb-false, ne_eqb}
-use Rattle.sitting_file.specs.Format.{high_bit, groups_joined, judged_number, second_group, first_group, number_at}
+use Rattle.sitting_file.specs.Format.{high_bit, groups_joined, judged_number, second_group, first_group, number_at, Number}
 use Rattle.sitting_file.specs.declared.Refusal.{Refusal}
 use Rattle.sitting_file.specs.declared.Refusal.TheVariants.{EndsEarly, NotShortest, OutsideLimits}
-use Rattle.sitting_file.specs.declared.Number.{Number}
-use Rattle.sitting_file.specs.declared.Number.TheVariants.{Value, Fault}
 
 -- the number v begins the bytes, in one group or in two, of which the second is not 0; the place after it is next
 pub data Stands (at : ℕ) : ℕ → ℕ → List ℕ → Type 0 where
@@ -23,18 +22,18 @@ pub data Stands (at : ℕ) : ℕ → ℕ → List ℕ → Type 0 where
 
 -- what an answer tells of the bytes
 pub data Told (low high at : ℕ) : List ℕ → Number → Type 0 where
-  no_group : Told low high at [] (Fault EndsEarly)
-  half : {b : ℕ} → high_bit ≤ b → Told low high at (b ∷ []) (Fault EndsEarly)
-  not_short : {b c : ℕ} {rest : List ℕ} → high_bit ≤ b → (high_bit ≤ c) ⊎ (c ≡ 0) → Told low high at (b ∷ c ∷ rest) (Fault NotShortest)
-  outside : {v next : ℕ} {bytes : List ℕ} → Stands at v next bytes → (v < low) ⊎ (high < v) → Told low high at bytes (Fault OutsideLimits)
-  inside : {v next : ℕ} {bytes : List ℕ} → Stands at v next bytes → low ≤ v → v ≤ high → Told low high at bytes (Value v next)
+  no_group : Told low high at [] (Err EndsEarly)
+  half : {b : ℕ} → high_bit ≤ b → Told low high at (b ∷ []) (Err EndsEarly)
+  not_short : {b c : ℕ} {rest : List ℕ} → high_bit ≤ b → (high_bit ≤ c) ⊎ (c ≡ 0) → Told low high at (b ∷ c ∷ rest) (Err NotShortest)
+  outside : {v next : ℕ} {bytes : List ℕ} → Stands at v next bytes → (v < low) ⊎ (high < v) → Told low high at bytes (Err OutsideLimits)
+  inside : {v next : ℕ} {bytes : List ℕ} → Stands at v next bytes → low ≤ v → v ≤ high → Told low high at bytes (Ok (v, next))
 
 module _ (low high at : ℕ) where
   judged_tells : (v next : ℕ) (bytes : List ℕ) → Stands at v next bytes → Told low high at bytes (judged_number low high v next)
   unfolding judged_number
   judged_tells v next bytes s = go (leb low v) (leb v high) refl refl
     where
-      go : (p q : Bool) → leb low v ≡ p → leb v high ≡ q → Told low high at bytes (cond (p && q) (Value v next) (Fault OutsideLimits))
+      go : (p q : Bool) → leb low v ≡ p → leb v high ≡ q → Told low high at bytes (cond (p && q) (Ok (v, next)) (Err OutsideLimits))
       go true true l h = inside s (leb-true low v l) (leb-true v high h)
       go true false l h = outside s (inr (leb-false v high h))
       go false q l h = outside s (inl (leb-false low v l))
@@ -44,7 +43,7 @@ module _ (low high at : ℕ) where
   second_tells b [] big = half big
   second_tells b (c ∷ rest) big = go (leb high_bit c) (eqb c 0) refl refl
     where
-      go : (p q : Bool) → leb high_bit c ≡ p → eqb c 0 ≡ q → Told low high at (b ∷ c ∷ rest) (cond (p || q) (Fault NotShortest) (judged_number low high (groups_joined b c) (at + 1 + 1)))
+      go : (p q : Bool) → leb high_bit c ≡ p → eqb c 0 ≡ q → Told low high at (b ∷ c ∷ rest) (cond (p || q) (Err NotShortest) (judged_number low high (groups_joined b c) (at + 1 + 1)))
       go true q h z = not_short big (inl (leb-true high_bit c h))
       go false true h z = not_short big (inr (eqb-true c 0 z))
       go false false h z =
@@ -71,16 +70,18 @@ pub record Found (low high at v next : ℕ) (file : List ℕ) : Type 0 where
   pub ends : next ≤ length file
   pub single : v < high_bit → (next ≡ at + 1) × (v ≡ get_or file at 0)
 
-never : {A : Type 0} {why : Refusal} {v next : ℕ} → Fault why ≡ Value v next → A
+never : {A : Type 0} {why : Refusal} {v next : ℕ} → ◌≡◌ {A = Number} (Err why) (Ok (v, next)) → A
 never e =
     let z : ◌≡◌ {A = ℕ} 0 1 = cc in
     absurd (omega arith)
 
-value_same : {v w i j : ℕ} → Value v i ≡ Value w j → (v ≡ w) × (i ≡ j)
-value_same e = (cc, cc)
+value_same : {v w i j : ℕ} → ◌≡◌ {A = Number} (Ok (v, i)) (Ok (w, j)) → (v ≡ w) × (i ≡ j)
+value_same {v} {w} {i} {j} e =
+    let p : ◌≡◌ {A = ℕ × ℕ} (v, i) (w, j) = cc in
+    (ap (λ (q : ℕ × ℕ). q.0) p, ap (λ (q : ℕ × ℕ). q.1) p)
 
 module _ (low high at v next : ℕ) (file : List ℕ) where
-  told_found : {bytes : List ℕ} {n : Number} → Told low high at bytes n → n ≡ Value v next → drop at file ≡ bytes → Found low high at v next file
+  told_found : {bytes : List ℕ} {n : Number} → Told low high at bytes n → n ≡ Ok (v, next) → drop at file ≡ bytes → Found low high at v next file
   told_found no_group e d = never e
   told_found (half big) e d = never e
   told_found (not_short big f) e d = never e
@@ -96,7 +97,7 @@ module _ (low high at v next : ℕ) (file : List ℕ) where
       let long : length file - at ≡ suc (suc (length rest)) = sym (length-drop at file) ∙ ap length d in
       record { low_kept = omega arith; high_kept = omega arith; width_low = omega arith; width_high = omega arith; ends = omega arith; single = λ s. absurd (omega arith) }
 
-  pub number_found : number_at file at low high ≡ Value v next → Found low high at v next file
+  pub number_found : number_at file at low high ≡ Ok (v, next) → Found low high at v next file
   number_found e = told_found (tells low high at (drop at file)) e refl
 
 -- ---- a number under other limits
@@ -109,7 +110,7 @@ module _ (low high other at : ℕ) where
       let nonzero : c ≡ 0 → ⊥ = omega arith in
       rw (le-leb high_bit b big, lt-leb high_bit c high-c, ne_eqb c 0 nonzero)
 
-  told_judged : {bytes : List ℕ} {n : Number} {v next : ℕ} → Told low high at bytes n → n ≡ Value v next → first_group low other at bytes ≡ judged_number low other v next
+  told_judged : {bytes : List ℕ} {n : Number} {v next : ℕ} → Told low high at bytes n → n ≡ Ok (v, next) → first_group low other at bytes ≡ judged_number low other v next
   told_judged no_group e = never e
   told_judged (half big) e = never e
   told_judged (not_short big f) e = never e
@@ -119,5 +120,5 @@ module _ (low high other at : ℕ) where
       stands_judged s ∙ ap₂ (judged_number low other) t.0 t.1
 
   -- a number that was found is the same number under another limit, and judged by it
-  pub judged_again : (v next : ℕ) (bytes : List ℕ) → first_group low high at bytes ≡ Value v next → first_group low other at bytes ≡ judged_number low other v next
+  pub judged_again : (v next : ℕ) (bytes : List ℕ) → first_group low high at bytes ≡ Ok (v, next) → first_group low other at bytes ≡ judged_number low other v next
   judged_again v next bytes e = told_judged (tells low high at bytes) e

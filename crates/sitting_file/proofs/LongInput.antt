@@ -1,5 +1,6 @@
 -- A file that is longer than any of the format is refused on its first bytes, with the same fault, and never because it ends early.
 -- Reading stays within its first `bytes` bytes, since the header and the symbols together take fewer. Assumes nothing.
+use Rattle.std.specs.Prelude.{Ok, Err}
 use Prim.Native.Nat.{ℕ, zero, suc, ◌+◌, ◌-◌, ◌<◌, ◌≤◌}
 use mathlib.Core.Path.{◌≡◌, refl, sym, ap, ap₂, ◌∙◌}
 use mathlib.Core.List.{List, ◌∷◌}
@@ -9,22 +10,16 @@ use lib.ListN.{length, get_or, take, drop, length-drop}
 use lib.Seq.{drop-cons, get_or-take, length-take-le}
 use borrow.Author.Tests.{lt-ltb}
 use Rattle.numbers.specs.Limits.{fewest_symbols, most_symbols, deepest, longest}
-use Rattle.sitting_file.specs.Format.{second_group, first_group, number_at, and_then, header_up_to, header_of, symbols_from, body_of}
+use Rattle.sitting_file.specs.Format.{second_group, first_group, number_at, and_then, header_up_to, header_of, symbols_from, body_of, Heading, Number, Reading}
 use Rattle.sitting_file.specs.Samples.{InLimits, longest_header, longest_file}
 use Rattle.sitting_file.specs.Input.{input_bytes, ShowsFault}
 use Rattle.sitting_file.specs.declared.Shape.{Shape}
 use Rattle.sitting_file.specs.declared.Refusal.{Refusal}
 use Rattle.sitting_file.specs.declared.Refusal.TheVariants.{EndsEarly, BytesLeft}
-use Rattle.sitting_file.specs.declared.Number.{Number}
-use Rattle.sitting_file.specs.declared.Number.TheVariants.{Value, Fault}
-use Rattle.sitting_file.specs.declared.Heading.{Heading}
-use Rattle.sitting_file.specs.declared.Heading.TheVariants.{Whole, Faulty}
-use Rattle.sitting_file.specs.declared.Reading.{Reading}
-use Rattle.sitting_file.specs.declared.Reading.TheVariants.{Refused}
 use Rattle.sitting_file.proofs.Groups.{Told, no_group, half, not_short, outside, inside, tells, Found, number_found}
 
 -- a number with two bytes to read is never found to end early
-two_enough : {low high at : ℕ} {bytes : List ℕ} {n : Number} {why : Refusal} → Told low high at bytes n → 2 ≤ length bytes → n ≡ Fault why → why ≡ EndsEarly → ⊥
+two_enough : {low high at : ℕ} {bytes : List ℕ} {n : Number} {why : Refusal} → Told low high at bytes n → 2 ≤ length bytes → n ≡ Err why → why ≡ EndsEarly → ⊥
 two_enough no_group h e q = omega arith
 two_enough (half big) h e q = omega arith
 two_enough (not_short big f) h e q = let z : ◌≡◌ {A = ℕ} 0 1 = cc in omega arith
@@ -64,14 +59,14 @@ module _ (file : List ℕ) (bytes : ℕ) (inside-file : bytes ≤ length file) w
     step at low high h go other onward = rw (same_number at low high h) (by (number_at file at low high) refl)
       where
         by : (n : Number) → number_at file at low high ≡ n → P (and_then n stop go) (and_then n stop other)
-        by (Value v next) e = onward v next (number_found low high at v next file e)
-        by (Fault why) e = stopped why (two_enough (tells low high at (drop at file)) (omega (arith, length-drop at file)) e)
+        by (Ok (v, next)) e = onward v next (number_found low high at v next file e)
+        by (Err why) e = stopped why (two_enough (tells low high at (drop at file)) (omega (arith, length-drop at file)) e)
 
   -- both are refused with one fault, which is not 13
   record Shown (whole part : Reading) : Type 0 where
     why : Refusal
-    whole_refused : whole ≡ Refused why
-    part_refused : part ≡ Refused why
+    whole_refused : whole ≡ Err why
+    part_refused : part ≡ Err why
     not_early : why ≡ EndsEarly → ⊥
 
   symbols_shown : (shape : Shape) → InLimits shape → (left at : ℕ) → at + left < bytes → Shown (symbols_from file shape left at) (symbols_from first shape left at)
@@ -85,21 +80,21 @@ module _ (file : List ℕ) (bytes : ℕ) (inside-file : bytes ≤ length file) w
         not_early = λ e. let z : ◌≡◌ {A = ℕ} 0 1 = cc in omega arith;
       }
   symbols_shown shape l (suc left) at h =
-      step Shown Refused (λ why n. record { why = why; whole_refused = refl; part_refused = refl; not_early = n }) at 0 (shape.alphabet - 1) (omega arith) _ _
+      step Shown Err (λ why n. record { why = why; whole_refused = refl; part_refused = refl; not_early = n }) at 0 (shape.alphabet - 1) (omega arith) _ _
       (λ v next f. let s = f.single (let high = l.alphabet_high in let k = f.high_kept in omega arith) in symbols_shown shape l left next (omega arith))
 
   -- both headers stop at one fault, or are the same
   data Alike : Heading → Heading → Type 0 where
-    faulty : (why : Refusal) → (why ≡ EndsEarly → ⊥) → Alike (Faulty why) (Faulty why)
-    whole : (shape : Shape) (at : ℕ) → InLimits shape → at ≤ longest_header → Alike (Whole shape at) (Whole shape at)
+    faulty : (why : Refusal) → (why ≡ EndsEarly → ⊥) → Alike (Err why) (Err why)
+    whole : (shape : Shape) (at : ℕ) → InLimits shape → at ≤ longest_header → Alike (Ok (shape, at)) (Ok (shape, at))
 
   header_alike : longest_header + 2 ≤ bytes → Alike (header_of file) (header_of first)
   unfolding header_up_to
   header_alike h =
-      step Alike Faulty faulty 0 fewest_symbols most_symbols (omega arith) _ _
-      (λ A at₁ f₁. step Alike Faulty faulty at₁ 0 deepest (omega arith) _ _
-      (λ D at₂ f₂. step Alike Faulty faulty at₂ 0 longest (omega arith) _ _
-      (λ n at₃ f₃. step Alike Faulty faulty at₃ 0 longest (omega arith) _ _
+      step Alike Err faulty 0 fewest_symbols most_symbols (omega arith) _ _
+      (λ A at₁ f₁. step Alike Err faulty at₁ 0 deepest (omega arith) _ _
+      (λ D at₂ f₂. step Alike Err faulty at₂ 0 longest (omega arith) _ _
+      (λ n at₃ f₃. step Alike Err faulty at₃ 0 longest (omega arith) _ _
       (λ m at₄ f₄.
       let one = f₁.single (omega arith) in
       let two = f₂.single (omega arith) in

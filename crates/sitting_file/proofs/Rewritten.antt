@@ -1,4 +1,5 @@
 -- An accepted file is its header's four numbers in their shortest forms and then its symbols, a byte each. Assumes nothing.
+use Rattle.std.specs.Prelude.{Ok}
 use Prim.Native.Nat.{ℕ, suc, ◌+◌, ◌-◌, ◌<◌, ◌≤◌}
 use mathlib.Core.Path.{◌≡◌, refl, sym, ap, ◌∙◌}
 use mathlib.Core.List.{List, [], ◌∷◌, ◌++◌}
@@ -10,7 +11,6 @@ use Rattle.sitting_file.specs.Format.{read_of}
 use Rattle.sitting_file.specs.Samples.{Below, last_symbols, first_of, second_of}
 use Rattle.sitting_file.specs.Verdict.{Bytes, written, with_header, OfFormat}
 use Rattle.sitting_file.specs.declared.Shape.{Shape}
-use Rattle.sitting_file.specs.declared.Reading.TheVariants.{Accepted}
 use Rattle.sitting_file.proofs.Shortest.{one_byte}
 use Rattle.sitting_file.proofs.Written.{written_append}
 use Rattle.sitting_file.proofs.Answers.{answer_exactly}
@@ -37,7 +37,7 @@ module _ (file : List ℕ) (shape : Shape) where
       let start : length head ≡ length file - (shape.first + shape.second) = omega arith in
       sym (ap (drop (length file - (shape.first + shape.second))) (format_bytes f) ∙ drop_at head f.symbols _ start)
 
-  pub accepted_bytes : Bytes file → read_of file ≡ Accepted shape → file ≡ written (with_header shape []) ++ (first_of file shape ++ second_of file shape)
+  pub accepted_bytes : Bytes file → read_of file ≡ Ok shape → file ≡ written (with_header shape []) ++ (first_of file shape ++ second_of file shape)
   accepted_bytes bytes e =
-      let f = (answer_exactly file bytes (Accepted shape)).0 (sym e) in
+      let f = (answer_exactly file bytes (Ok shape)).0 (sym e) in
       format_bytes f ∙ ap (λ (l : List ℕ). head ++ l) (format_symbols f ∙ sym (take-append-drop shape.first (last_symbols file shape)))

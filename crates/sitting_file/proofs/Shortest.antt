@@ -1,4 +1,5 @@
 -- The shortest form of a number: it is read back as that number, and it is what stands where a number was found. Assumes nothing.
+use Rattle.std.specs.Prelude.{Ok, Err}
 use Prim.Native.Nat.{ℕ, suc, ◌+◌, ◌/◌, ◌%◌, ◌<◌, ◌≤◌}
 use mathlib.Core.Path.{◌≡◌, refl, ap, ◌∙◌}
 use mathlib.Core.Logic.{◌⊎◌, inl, inr}
@@ -8,12 +9,10 @@ use native.Mathlib.Omega.{arith}
 use lib.ListN.{length}
 use lib.Dec.{ltb, leb, eqb}
 use borrow.Author.Tests.{ltb-true, ltb-false, leb-true, leb-false, lt-ltb, le-ltb, le-leb, lt-leb, eq-eqb, ne_eqb}
-use Rattle.sitting_file.specs.Format.{high_bit, groups_joined, judged_number, second_group, first_group}
+use Rattle.sitting_file.specs.Format.{high_bit, groups_joined, judged_number, second_group, first_group, Number}
 use Rattle.sitting_file.specs.Verdict.{Bytes, two_groups, shortest, from_to, FaultAt}
 use Rattle.sitting_file.specs.declared.Refusal.{Refusal}
 use Rattle.sitting_file.specs.declared.Refusal.TheVariants.{EndsEarly, NotShortest, OutsideLimits, BytesLeft}
-use Rattle.sitting_file.specs.declared.Number.{Number}
-use Rattle.sitting_file.specs.declared.Number.TheVariants.{Value, Fault}
 use Rattle.sitting_file.proofs.Places.{below_low, above_high}
 use Rattle.sitting_file.proofs.Groups.{Stands, one, two, Told, no_group, half, not_short, outside, inside, tells}
 
@@ -64,8 +63,8 @@ form {at} (two {b} {c} {rest} big low high) bytes =
 
 -- what an answer says of the bytes
 abbrev pub Says : ℕ → ℕ → ℕ → List ℕ → Number → Type 0
-Says low high at bytes (Value v next) = Form at v next bytes × (low ≤ v) × (v ≤ high)
-Says low high at bytes (Fault why) = FaultAt why (from_to low high) bytes
+Says low high at bytes (Ok (v, next)) = Form at v next bytes × (low ≤ v) × (v ≤ high)
+Says low high at bytes (Err why) = FaultAt why (from_to low high) bytes
 
 told_says : {low high at : ℕ} {bytes : List ℕ} {n : Number} → Told low high at bytes n → Bytes bytes → Says low high at bytes n
 told_says no_group bytes = inl refl
@@ -79,7 +78,7 @@ number_says low high at bytes b = told_says (tells low high at bytes) b
 
 -- ---- each fault is found
 
-pub fault_found : (why : Refusal) (low high at : ℕ) (bytes : List ℕ) → FaultAt why (from_to low high) bytes → first_group low high at bytes ≡ Fault why
+pub fault_found : (why : Refusal) (low high at : ℕ) (bytes : List ℕ) → FaultAt why (from_to low high) bytes → first_group low high at bytes ≡ Err why
 unfolding first_group second_group
 fault_found EndsEarly low high at bytes (inl e) = rw e
 fault_found EndsEarly low high at bytes (inr f) = rw (f.2, le-leb high_bit f.0 f.1)
@@ -89,16 +88,16 @@ fault_found NotShortest low high at bytes f = rw (f.5, le-leb high_bit f.0 f.3) 
     or_true true = refl
     or_true false = refl
 
-    go : (high_bit ≤ f.1) ⊎ (f.1 ≡ 0) → cond (leb high_bit f.1 || eqb f.1 0) (Fault NotShortest) (judged_number low high (groups_joined f.0 f.1) (at + 1 + 1)) ≡ Fault NotShortest
+    go : (high_bit ≤ f.1) ⊎ (f.1 ≡ 0) → cond (leb high_bit f.1 || eqb f.1 0) (Err NotShortest) (judged_number low high (groups_joined f.0 f.1) (at + 1 + 1)) ≡ Err NotShortest
     go (inl h) = rw (le-leb high_bit f.1 h)
     go (inr z) = rw (eq-eqb f.1 0 z, or_true (leb high_bit f.1))
 fault_found OutsideLimits low high at bytes f = ap (first_group low high at) f.4 ∙ read_back low high at f.0 f.1 f.2 ∙ go f.3
   where
-    far : (t : Bool) → leb low f.0 ≡ t → high < f.0 → judged_number low high f.0 (at + length (shortest f.0)) ≡ Fault OutsideLimits
+    far : (t : Bool) → leb low f.0 ≡ t → high < f.0 → judged_number low high f.0 (at + length (shortest f.0)) ≡ Err OutsideLimits
     far true e h = above_high low high f.0 _ (leb-true low f.0 e) h
     far false e h = below_low low high f.0 _ (leb-false low f.0 e)
 
-    go : (f.0 < low) ⊎ (high < f.0) → judged_number low high f.0 (at + length (shortest f.0)) ≡ Fault OutsideLimits
+    go : (f.0 < low) ⊎ (high < f.0) → judged_number low high f.0 (at + length (shortest f.0)) ≡ Err OutsideLimits
     go (inl h) = below_low low high f.0 _ h
     go (inr h) = far (leb low f.0) refl h
 fault_found BytesLeft low high at bytes f = absurd f

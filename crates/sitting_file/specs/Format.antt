@@ -1,16 +1,22 @@
 -- The reader of sitting files as a program over the list of the file's bytes: document 01, 'Sitting file and program' and refusals 13 to 16.
 -- "the first fault from the left, a number being judged when it has been read whole; of two faults of one number, the lower". Assumes nothing.
-use Rattle.std.specs.Prelude.{ℕ, zero, suc, ◌+◌, ◌-◌, ◌*◌, List, [], ◌∷◌, Bool, cond, ◌&&◌, ◌||◌, length, drop, ltb, leb, eqb}
+use Rattle.std.specs.Prelude.{ℕ, zero, suc, ◌+◌, ◌-◌, ◌*◌, List, [], ◌∷◌, Bool, cond, ◌&&◌, ◌||◌, length, drop, ltb, leb, eqb, Result, Ok, Err}
 use Rattle.numbers.specs.Limits.{fewest_symbols, most_symbols, deepest, longest}
 use Rattle.sitting_file.specs.declared.Shape.{Shape}
 use Rattle.sitting_file.specs.declared.Refusal.{Refusal}
 use Rattle.sitting_file.specs.declared.Refusal.TheVariants.{EndsEarly, NotShortest, OutsideLimits, BytesLeft}
-use Rattle.sitting_file.specs.declared.Number.{Number}
-use Rattle.sitting_file.specs.declared.Number.TheVariants.{Value, Fault}
-use Rattle.sitting_file.specs.declared.Heading.{Heading}
-use Rattle.sitting_file.specs.declared.Heading.TheVariants.{Whole, Faulty}
-use Rattle.sitting_file.specs.declared.Reading.{Reading}
-use Rattle.sitting_file.specs.declared.Reading.TheVariants.{Accepted, Refused}
+
+-- the answer to a file: what it announces, or why it is refused
+abbrev pub Reading : Type 0
+Reading = Result Shape Refusal
+
+-- the four numbers of a header with the place after them, or the first fault in them
+abbrev pub Heading : Type 0
+Heading = Result (Shape × ℕ) Refusal
+
+-- a number with the place after it, or its fault
+abbrev pub Number : Type 0
+Number = Result (ℕ × ℕ) Refusal
 
 -- document 01's number of each refusal
 abbrev pub refusal_number : Refusal → ℕ
@@ -33,16 +39,16 @@ groups_joined b c = b - high_bit + high_bit * c
 
 -- a number that has been read whole, judged by its limits, with the place after it
 unfoldable pub judged_number : ℕ → ℕ → ℕ → ℕ → Number
-judged_number low high v next = cond (leb low v && leb v high) (Value v next) (Fault OutsideLimits)
+judged_number low high v next = cond (leb low v && leb v high) (Ok (v, next)) (Err OutsideLimits)
 
 -- the second group, judged at that byte: it ends the number, and is not 0
 unfoldable pub second_group : ℕ → ℕ → ℕ → ℕ → List ℕ → Number
-second_group low high b at [] = Fault EndsEarly
-second_group low high b at (c ∷ rest) = cond (group_follows c || eqb c 0) (Fault NotShortest) (judged_number low high (groups_joined b c) (at + 1))
+second_group low high b at [] = Err EndsEarly
+second_group low high b at (c ∷ rest) = cond (group_follows c || eqb c 0) (Err NotShortest) (judged_number low high (groups_joined b c) (at + 1))
 
 -- the number that the bytes from a place on begin with
 unfoldable pub first_group : ℕ → ℕ → ℕ → List ℕ → Number
-first_group low high at [] = Fault EndsEarly
+first_group low high at [] = Err EndsEarly
 first_group low high at (b ∷ rest) = cond (group_follows b) (second_group low high b (at + 1) rest) (judged_number low high b (at + 1))
 
 -- the number, low to high, that stands at a place of the file
@@ -51,17 +57,17 @@ number_at file at low high = first_group low high at (drop at file)
 
 -- goes on with the number and the place after it, or stops at the fault
 abbrev pub and_then : {R : Type 0} → Number → (Refusal → R) → (ℕ → ℕ → R) → R
-and_then (Value v next) stop go = go v next
-and_then (Fault why) stop go = stop why
+and_then (Ok (v, next)) stop go = go v next
+and_then (Err why) stop go = stop why
 
 -- "The file: A, D, n, m", with the place after them, by a reader that takes samples of up to `limit` symbols
 unfoldable pub header_up_to : ℕ → List ℕ → Heading
 header_up_to limit file =
-    and_then (number_at file 0 fewest_symbols most_symbols) Faulty λ A at₁.
-    and_then (number_at file at₁ 0 deepest) Faulty λ D at₂.
-    and_then (number_at file at₂ 0 limit) Faulty λ n at₃.
-    and_then (number_at file at₃ 0 limit) Faulty λ m at₄.
-    Whole (record { alphabet = A; depth = D; first = n; second = m }) at₄
+    and_then (number_at file 0 fewest_symbols most_symbols) Err λ A at₁.
+    and_then (number_at file at₁ 0 deepest) Err λ D at₂.
+    and_then (number_at file at₂ 0 limit) Err λ n at₃.
+    and_then (number_at file at₃ 0 limit) Err λ m at₄.
+    Ok (record { alphabet = A; depth = D; first = n; second = m }, at₄)
 
 -- by the sample limit of this reader
 abbrev pub header_of : List ℕ → Heading
@@ -69,13 +75,13 @@ header_of file = header_up_to longest file
 
 -- "n symbols, m symbols": as many as are left, each below A, and nothing after them
 unfoldable pub symbols_from : List ℕ → Shape → ℕ → ℕ → Reading
-symbols_from file shape zero at = cond (ltb at (length file)) (Refused BytesLeft) (Accepted shape)
-symbols_from file shape (suc left) at = and_then (number_at file at 0 (shape.alphabet - 1)) Refused λ _ next. symbols_from file shape left next
+symbols_from file shape zero at = cond (ltb at (length file)) (Err BytesLeft) (Ok shape)
+symbols_from file shape (suc left) at = and_then (number_at file at 0 (shape.alphabet - 1)) Err λ _ next. symbols_from file shape left next
 
 -- what follows the header
 unfoldable pub body_of : List ℕ → Heading → Reading
-body_of file (Whole shape at) = symbols_from file shape (shape.first + shape.second) at
-body_of file (Faulty why) = Refused why
+body_of file (Ok (shape, at)) = symbols_from file shape (shape.first + shape.second) at
+body_of file (Err why) = Err why
 
 -- the answer to a file, by a reader of any sample limit and by this one
 abbrev pub read_up_to : ℕ → List ℕ → Reading

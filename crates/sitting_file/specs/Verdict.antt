@@ -1,14 +1,13 @@
 -- What each answer says of the file, with no reading in it: the numbers that stand in the file before a place, each within its limits, and
 -- what stands at that place. Assumes nothing.
+use Rattle.std.specs.Prelude.{Ok, Err}
 use Rattle.std.specs.Prelude.{ℕ, ◌+◌, ◌-◌, ◌*◌, ◌/◌, ◌%◌, ◌<◌, ◌≤◌, ◌≡◌, ◌⊎◌, List, [], ◌∷◌, ◌++◌, cond, length, get_or, ltb}
 use Rattle.numbers.specs.Limits.{fewest_symbols, most_symbols, deepest, longest}
-use Rattle.sitting_file.specs.Format.{high_bit}
+use Rattle.sitting_file.specs.Format.{high_bit, Reading}
 use Rattle.sitting_file.specs.Samples.{InLimits, Below}
 use Rattle.sitting_file.specs.declared.Shape.{Shape}
 use Rattle.sitting_file.specs.declared.Refusal.{Refusal}
 use Rattle.sitting_file.specs.declared.Refusal.TheVariants.{EndsEarly, NotShortest, OutsideLimits, BytesLeft}
-use Rattle.sitting_file.specs.declared.Reading.{Reading}
-use Rattle.sitting_file.specs.declared.Reading.TheVariants.{Accepted, Refused}
 
 -- a file is a list of bytes
 abbrev pub Bytes : List ℕ → Type 0
@@ -101,5 +100,5 @@ pub record FaultIn (file : List ℕ) (why : Refusal) : Type 0 where
 
 -- what an answer says of the file
 abbrev pub Verdict : List ℕ → Reading → Type 0
-Verdict file (Accepted shape) = OfFormat file shape
-Verdict file (Refused why) = FaultIn file why
+Verdict file (Ok shape) = OfFormat file shape
+Verdict file (Err why) = FaultIn file why

@@ -1,4 +1,5 @@
-// The library for C: slices and single numbers alone. Each call answers 0 or its refusal's number.
+// The library for C: slices and single numbers alone. Each call answers 0 or its refusal's number. The C interface is why a sample, which samples saw a context
+// and a refusal are numbers here, and why outputs are lent one by one.
 #![tactic(auto)]
 
 ghost use Rattle.std.specs.Prelude.{◌≡◌};
@@ -8,19 +9,15 @@ ghost use Rattle.rules.specs.Rules.{feed};
 ghost use Rattle.store.specs.Sound.{soundb};
 ghost use Rattle.told.specs.Told.{MakeTold, MoveTold, RunTold, RoomTold, ReportTold, ReadTold, WriteTold, SalvageTold, ChartTold};
 
-use calls::{ChartAnswer, ReportAnswer, RoomLeft};
 use chart::Chart;
-use salvage::Salvaged;
-use sitting_file::Reading;
-use told::{code_of, ending_code, making_code};
-use writing::Writing;
+use told::code_of;
 
 // Makes a store for `room` contexts of the numbers lent, whatever they are.
 #[unsafe(no_mangle)]
 pub extern "C" fn sobumikeyo_make(store: &mut [u32], room: u32) -> u32
     ensures { MakeTold room store.old result store.new }
 {
-    making_code(store::make(store, room))
+    code_of(store::make(store, room))
 }
 
 // Opens a desk for an alphabet, a depth and a weight in quarters, and reserves it room.
@@ -74,8 +71,7 @@ pub extern "C" fn sobumikeyo_feed_all(
     ensures { RunTold store.old desk sample symbols.now result why.new store.new }
 {
     let fed = feeding::feed_all(store, desk, sample, symbols);
-    let ending = fed.ending;
-    *why = ending_code(ending);
+    *why = code_of(fed.ending);
     fed.accepted as u32
 }
 
@@ -92,10 +88,10 @@ pub extern "C" fn sobumikeyo_report(
     ensures { ReportTold store.now desk place result sheet.old sheet.new rows.old rows.new score.old score.new }
 {
     match report::report(store, desk, sheet, place) {
-        ReportAnswer::Refused(why) => calls::number_of(why),
-        ReportAnswer::Rows(count, value) => {
-            *rows = count;
-            *score = value;
+        Err(why) => u32::from(why),
+        Ok(reported) => {
+            *rows = reported.rows;
+            *score = reported.score;
             0
         }
     }
@@ -107,8 +103,8 @@ pub extern "C" fn sobumikeyo_room(store: &[u32], left: &mut u32) -> u32
     ensures { RoomTold store.now result left.old left.new }
 {
     match desks::room_left(store) {
-        RoomLeft::Refused(why) => calls::number_of(why),
-        RoomLeft::Contexts(n) => {
+        Err(why) => u32::from(why),
+        Ok(n) => {
             *left = n;
             0
         }
@@ -121,8 +117,8 @@ pub extern "C" fn sobumikeyo_read(file: &[u8], shape: &mut [u32; 4]) -> u32
     ensures { ReadTold file.now result shape.old shape.new }
 {
     match sitting_file::read(file) {
-        Reading::Refused(why) => sitting_file::refusal_number(why),
-        Reading::Accepted(s) => {
+        Err(why) => u32::from(why),
+        Ok(s) => {
             *shape = [s.alphabet, s.depth, s.first, s.second];
             0
         }
@@ -142,8 +138,8 @@ pub extern "C" fn sobumikeyo_write(
     ensures { WriteTold alphabet depth first.now second.now file.old result file.new written.old written.new }
 {
     match writing::write(first, second, alphabet, depth, file) {
-        Writing::Refused(why) => writing::refusal_number(why),
-        Writing::Length(size) => {
+        Err(why) => u32::from(why),
+        Ok(size) => {
             *written = size;
             0
         }
@@ -162,9 +158,10 @@ pub extern "C" fn sobumikeyo_salvage(
     ensures { SalvageTold damaged.now file.old result file.new written.old written.new told.old told.new }
 {
     match salvage::salvage(damaged, file) {
-        Salvaged::Refused(why) => salvage::refusal_number(why),
-        Salvaged::File(length, lost) => {
-            *written = length;
+        Err(why) => u32::from(why),
+        Ok(saved) => {
+            let lost = saved.lost;
+            *written = saved.size;
             *told = [
                 lost.first.missing,
                 lost.first.dropped,
@@ -193,8 +190,8 @@ pub extern "C" fn sobumikeyo_chart(
     ensures { ChartTold store.now desk length code symbol result seen.old seen.new first.old first.new second.old second.new gap.old gap.new }
 {
     match charting::chart(store, desk, length, code, symbol) {
-        ChartAnswer::Refused(why) => calls::number_of(why),
-        ChartAnswer::Answered(chart) => {
+        Err(why) => u32::from(why),
+        Ok(chart) => {
             match chart {
                 Chart::Neither => {
                     *seen = 0;

@@ -2,7 +2,7 @@
 use mathlib.Core.Path.{◌≡◌, sym, ap, ◌∙◌}
 use mathlib.Core.Bool.{Bool, ◌&&◌, ◌||◌, and-true}
 use mathlib.Core.List.{List}
-use Prim.Native.Nat.{ℕ, zero, suc, ◌+◌, ◌*◌, ◌/◌, ◌≤◌, ◌<◌}
+use Prim.Native.Nat.{ℕ, zero, suc, ◌+◌, ◌-◌, ◌*◌, ◌/◌, ◌≤◌, ◌<◌}
 use native.Mathlib.Nat.{div-mul-le_self, div-le_self, mul-le-mul_right, le_trans}
 use native.Mathlib.Omega.{arith}
 use borrow.Author.Tests.{ne_eqb, lt-ltb, le-ltb}
@@ -22,6 +22,12 @@ eight_from from r = take most_symbols (drop from r)
 
 pub eight_at : (from : ℕ) (r : List ℕ) (i : ℕ) → i < most_symbols → get_or (eight_from from r) i 0 ≡ get_or r (from + i) 0
 eight_at from r i g = get_d_part most_symbols from r i 0 g
+
+-- .. and as the code goes over them
+pub eight_gone : (from : ℕ) (r : List ℕ) (i : ℕ) → i < most_symbols → get_or (take (from + most_symbols - from) (drop from r)) i 0 ≡ get_or r (from + i) 0
+eight_gone from r i g =
+    let many : from + most_symbols - from ≡ most_symbols = omega arith in
+    rw many (eight_at from r i g)
 
 -- the sum so far
 pub record Summing (r : List ℕ) (from seen i : ℕ) : Type 0 where

@@ -8,30 +8,25 @@ ghost use Rattle.numbers.specs.Every.{every, all};
 ghost use Rattle.records.specs.Records.{width, records, key};
 ghost use Rattle.contexts.specs.Keys.{desk_of, desk_span, eights};
 ghost use Rattle.contexts.specs.Sitting.{sum_of};
-ghost use Rattle.store.specs.Layout.{header_size};
 ghost use Rattle.store.specs.Sound.{soundb, of_alphabet, frame_ok, limits_ok, slots_ok, desk_test, reserved_at, quiet_from, counts_ok, table_ok};
 ghost use Rattle.store.specs.Walk.{largest_sum, Summed, oldest_ok, ends_ok, up_mark, key_fits, seen_mark, mark_ok, step_ok, tally_ok, passb};
 
 use numbers::{DEEPEST, DESKS, FEWEST_SYMBOLS, LONGEST, MOST_ROOM, MOST_SYMBOLS, MOST_WEIGHT};
-use records::{COUNTS, DESK_SPAN, WIDTH};
-use store::layout::{
-    COUNTS_FIRST, COUNTS_SECOND, DEPTH, DESK_SIZE, FIRST_DESK, HEADER, OPEN, RECENT_FIRST,
-    RECENT_SECOND, RESERVE, ROOM, SIZE_FIRST, SIZE_SECOND, SLOTS, SYMBOLS, USED, WEIGHT, field_at,
-};
+use records::{COUNTS, DESK_SPAN, Sample, WIDTH, eights_of};
+use store::layout::{COUNTS_FIRST, COUNTS_SECOND, DeskNumbers, HEADER, Header, ROOM, USED};
 
 // Whether a lent store stands for sittings.
 pub fn sound(store: &[u32]) -> bool
     ensures { result ≡ soundb store.now }
 {
-    if frame_ok(store) {
-        let many = store[USED] as usize;
-        let room = store[ROOM] as u64;
-        let body = &store[HEADER..];
-        if pass(store, body, many) {
-            return reserved(store) <= room;
-        }
+    if !frame_ok(store) {
+        return false;
     }
-    false
+    let many = store[USED] as usize;
+    let room = u64::from(store[ROOM]);
+    let body = &store[HEADER..];
+    let header = Header { store };
+    pass(header, body, many) && reserved(header) <= room
 }
 
 // The length, the room and the number of records in use.
@@ -39,17 +34,11 @@ fn frame_ok(store: &[u32]) -> bool
     ensures { result ≡ frame_ok store.now }
 {
     let len = store.len();
-    if HEADER <= len {
-        let room = store[ROOM] as usize;
-        if 1 <= room {
-            if room <= MOST_ROOM {
-                if HEADER + WIDTH * room <= len {
-                    return store[USED] as usize <= room;
-                }
-            }
-        }
+    if len < HEADER {
+        return false;
     }
-    false
+    let room = store[ROOM] as usize;
+    1 <= room && room <= MOST_ROOM && HEADER + WIDTH * room <= len && store[USED] as usize <= room
 }
 
 // A mark for each length that a key's digit can have, one place on.
@@ -57,93 +46,81 @@ const MARKS: usize = 9;
 
 // The pass. `p` and `q` have, for each length, the mark of the last record so long in each sample, one place on;
 // `tally` the number of each desk's records.
-fn pass(store: &[u32], body: &[u32], many: usize) -> bool
-    requires { (header_size ≤ length store.now) × (width * many ≤ length body.now) × (many ≤ most_room) }
-    ensures { result ≡ passb store.now (records many body.now) }
+// No plainer as an array of two: each test below names the mark of the first sample and of the second once, as `step_ok` does; and `body` and `many` are
+// what `passb` speaks of.
+fn pass(header: Header, body: &[u32], many: usize) -> bool
+    requires { (width * many ≤ length body.now) × (many ≤ most_room) }
+    ensures { result ≡ passb header.entry.store.now (records many body.now) }
 {
     let mut p = [0u32; MARKS];
     let mut q = [0u32; MARKS];
     let mut tally = [0u32; DESKS];
-    let mut lo: u32 = 0;
-    let mut i: usize = 0;
-    while i < many {
-        let at = WIDTH * i;
-        let end = at + WIDTH;
-        let held = &body[at..end];
+    let mut lo = 0;
+    let (whole, _) = body.as_chunks::<WIDTH>();
+    for held in &whole[..many] {
         let key = held[0];
         let len = (key % 8) as usize;
         let x = total(held, COUNTS_FIRST);
         let y = total(held, COUNTS_SECOND);
-        if record_ok(store, held, lo, x, y, p[len], q[len]) {
-            let desk = (key / DESK_SPAN) as usize;
-            p[len + 1] = mark(key, x);
-            q[len + 1] = mark(key, y);
-            tally[desk] = tally[desk] + 1;
-            lo = key + 1;
-            i = i + 1;
-        } else {
+        if !record_ok(header, held, lo, x, y, p[len], q[len]) {
             return false;
         }
+        let desk = (key / DESK_SPAN) as usize;
+        p[len + 1] = mark(key, x);
+        q[len + 1] = mark(key, y);
+        tally[desk] += 1;
+        lo = key + 1;
     }
-    desks_ok(store, tally)
+    desks_ok(header, tally)
 }
 
-// The sum of the eight counts that begin at a place of a record.
+// The sum of the eight counts that begin at a place of a record. The place stays a number, here and below: no plainer as a part of eight, since the layout names
+// the places and each part would be cut off three times.
 fn total(held: &[u32], from: usize) -> u64
     requires { from + most_symbols ≤ length held.now }
     ensures { (result ≡ sum_of (take most_symbols (drop from held.now))) × (result ≤ largest_sum) }
 {
-    let mut seen: u64 = 0;
-    let mut i: usize = 0;
-    while i < COUNTS {
-        seen = seen + held[from + i] as u64;
-        i = i + 1;
+    let end = from + COUNTS;
+    let mut seen = 0;
+    for &count in &held[from..end] {
+        seen += u64::from(count);
     }
     seen
 }
 
 // A record's turn: its key, its counts, x and y in all, and the marks p and q at its parent's length.
-fn record_ok(store: &[u32], held: &[u32], lo: u32, x: u64, y: u64, p: u32, q: u32) -> bool
-    requires { (header_size ≤ length store.now) × Summed held.now x y }
-    ensures { result ≡ step_ok store.now lo p q held.now }
+fn record_ok(header: Header, held: &[u32], lo: u32, x: u64, y: u64, p: u32, q: u32) -> bool
+    requires { Summed held.now x y }
+    ensures { result ≡ step_ok header.entry.store.now lo p q held.now }
 {
     let key = held[0];
-    if lo <= key {
-        if key_fits(store, key) {
-            if table_ok(store, held, x, y) {
-                let up = up_mark(key);
-                if mark_ok(x, p, up) {
-                    return mark_ok(y, q, up);
-                }
-            }
-        }
+    if lo <= key && key_fits(header, key) && table_ok(header, held, x, y) {
+        let up = up_mark(key);
+        return mark_ok(x, p, up) && mark_ok(y, q, up);
     }
     false
 }
 
 // Whether a key has the length, the oldest symbol and the end of a context of an open desk.
-fn key_fits(store: &[u32], key: u32) -> bool
-    requires { header_size ≤ length store.now }
-    ensures { result ≡ key_fits store.now key }
+fn key_fits(header: Header, key: u32) -> bool
+    ensures { result ≡ key_fits header.entry.store.now key }
 {
     let desk = (key / DESK_SPAN) as usize;
-    if desk < DESKS {
-        if field_at(store, desk, OPEN) == 1 {
-            if key % 8 <= field_at(store, desk, DEPTH) {
-                if oldest_ok(field_at(store, desk, SYMBOLS), key) {
-                    return ends_ok(key);
-                }
-            }
-        }
+    if DESKS <= desk {
+        return false;
     }
-    false
+    let desk = DeskNumbers {
+        store: header.store,
+        desk,
+    };
+    desk.is_open() && key % 8 <= desk.depth() && oldest_ok(desk.symbols(), key) && ends_ok(key)
 }
 
 // Whether the oldest symbol of a key is below `a`.
 fn oldest_ok(a: u32, key: u32) -> bool
     ensures { result ≡ oldest_ok a key }
 {
-    let w = eights_of((key % 8) as usize);
+    let w = eights_of(key % 8);
     key % DESK_SPAN / w % 8 < a
 }
 
@@ -152,33 +129,24 @@ fn ends_ok(key: u32) -> bool
     ensures { result ≡ ends_ok key }
 {
     let len = key % 8;
-    let w = eights_of(len as usize);
+    let w = eights_of(len);
     key % w == len
 }
 
-// The power of eight at which the oldest of `len` symbols stands in a key: by a shift, which is faster than a table.
-fn eights_of(len: usize) -> u32
-    requires { len < 8 }
-    ensures { (result ≡ eights len) × (0 < result) }
-{
-    1u32 << (21 - 3 * len)
-}
-
 // The counts of both samples by what the key's desk says, and at least one.
-fn table_ok(store: &[u32], held: &[u32], x: u64, y: u64) -> bool
-    requires { (header_size ≤ length store.now) × (desk_of (key held.now) < desks) × Summed held.now x y }
-    ensures { result ≡ table_ok store.now held.now }
+fn table_ok(header: Header, held: &[u32], x: u64, y: u64) -> bool
+    requires { (desk_of (key held.now) < desks) × Summed held.now x y }
+    ensures { result ≡ table_ok header.entry.store.now held.now }
 {
     let desk = (held[0] / DESK_SPAN) as usize;
-    let a = field_at(store, desk, SYMBOLS);
-    let n = field_at(store, desk, SIZE_FIRST);
-    let m = field_at(store, desk, SIZE_SECOND);
-    if counts_ok(held, COUNTS_FIRST, x, a, n) {
-        if counts_ok(held, COUNTS_SECOND, y, a, m) {
-            return 0 < x + y;
-        }
-    }
-    false
+    let desk = DeskNumbers {
+        store: header.store,
+        desk,
+    };
+    let a = desk.symbols();
+    let n = desk.size(Sample::First);
+    let m = desk.size(Sample::Second);
+    counts_ok(held, COUNTS_FIRST, x, a, n) && counts_ok(held, COUNTS_SECOND, y, a, m) && 0 < x + y
 }
 
 // A sample's counts, `seen` in all: none from symbol `a` up, and no more than `most`.
@@ -186,10 +154,7 @@ fn counts_ok(held: &[u32], from: usize, seen: u64, a: u32, most: u32) -> bool
     requires { (from + most_symbols ≤ length held.now) × (seen ≡ sum_of (take most_symbols (drop from held.now))) }
     ensures { result ≡ counts_ok a most (take most_symbols (drop from held.now)) }
 {
-    if quiet(held, from, a as usize) {
-        return seen <= most as u64;
-    }
-    false
+    quiet(held, from, a as usize) && seen <= u64::from(most)
 }
 
 // Whether the counts that begin at a place of a record are 0 from symbol `a` up.
@@ -198,13 +163,12 @@ fn quiet(held: &[u32], from: usize, a: usize) -> bool
     requires { from + most_symbols ≤ length held.now }
     ensures { result ≡ quiet_from a (take most_symbols (drop from held.now)) }
 {
+    let end = from + COUNTS;
     let mut seen: u64 = 0;
-    let mut i: usize = 0;
-    while i < COUNTS {
-        if a <= i {
-            seen = seen + held[from + i] as u64;
+    for (symbol, &count) in held[from..end].iter().enumerate() {
+        if a <= symbol {
+            seen += u64::from(count);
         }
-        i = i + 1;
     }
     seen == 0
 }
@@ -215,7 +179,7 @@ fn up_mark(key: u32) -> u32
     ensures { result ≡ up_mark key }
 {
     let len = key % 8;
-    let w = eights_of(len as usize);
+    let w = eights_of(len);
     key / w / 8 * 8 * w + len
 }
 
@@ -223,33 +187,28 @@ fn up_mark(key: u32) -> u32
 fn mark_ok(seen: u64, mark: u32, up: u32) -> bool
     ensures { result ≡ mark_ok seen mark up }
 {
-    if seen == 0 {
-        return true;
-    }
-    mark == up
+    seen == 0 || mark == up
 }
 
-// The mark of a key in a sample that has seen it `seen` times.
+// The mark of a key in a sample that has seen it `seen` times. 0 and no Option where it has not: what may not change (`seen_mark`, `up_mark`, `mark_ok`).
 fn mark(key: u32, seen: u64) -> u32
     requires { key < desks * desk_span }
     ensures { result ≡ seen_mark key seen }
 {
-    if 0 < seen {
-        return key + 1;
-    }
-    0
+    if 0 < seen { key + 1 } else { 0 }
 }
 
-// The desks' tests, with the number of each one's records.
-fn desks_ok(store: &[u32], tally: [u32; DESKS]) -> bool
-    requires { header_size ≤ length store.now }
-    ensures { result ≡ every desks (tally_ok store.now tally) }
+// The desks' tests, with the number of each one's records. Tried by `all` over the desks, here and in `reserved` by `sum`: the proof of what they tell of each
+// desk did not close.
+fn desks_ok(header: Header, tally: [u32; DESKS]) -> bool
+    ensures { result ≡ every desks (tally_ok header.entry.store.now tally) }
 {
-    let mut desk: usize = 0;
-    while desk < DESKS {
-        if desk_ok(store, desk, tally[desk]) {
-            desk = desk + 1;
-        } else {
+    for (desk, &many) in tally.iter().enumerate() {
+        let desk = DeskNumbers {
+            store: header.store,
+            desk,
+        };
+        if !desk_ok(desk, many) {
             return false;
         }
     }
@@ -257,101 +216,62 @@ fn desks_ok(store: &[u32], tally: [u32; DESKS]) -> bool
 }
 
 // A desk's test, with the number of its records.
-fn desk_ok(store: &[u32], desk: usize, many: u32) -> bool
-    requires { (header_size ≤ length store.now) × (desk < desks) }
-    ensures { result ≡ desk_test store.now desk many }
+fn desk_ok(desk: DeskNumbers, many: u32) -> bool
+    ensures { result ≡ desk_test desk.entry.store.now desk.entry.desk many }
 {
-    if field_at(store, desk, OPEN) == 1 {
-        if limits_ok(store, desk) {
-            if many <= field_at(store, desk, RESERVE) {
-                return slots_ok(store, desk);
-            }
-        }
-        return false;
-    }
-    true
+    !desk.is_open() || limits_ok(desk) && many <= desk.reserve() && slots_ok(desk)
 }
 
 // Whether A, D, the weight, the reservation and the lengths of a desk are within their limits.
-fn limits_ok(store: &[u32], desk: usize) -> bool
-    requires { (header_size ≤ length store.now) × (desk < desks) }
-    ensures { result ≡ limits_ok store.now desk }
+fn limits_ok(desk: DeskNumbers) -> bool
+    ensures { result ≡ limits_ok desk.entry.store.now desk.entry.desk }
 {
-    let a = field_at(store, desk, SYMBOLS);
-    if a < FEWEST_SYMBOLS {
-        return false;
-    }
-    if MOST_SYMBOLS < a {
-        return false;
-    }
-    if DEEPEST < field_at(store, desk, DEPTH) {
-        return false;
-    }
-    if MOST_WEIGHT < field_at(store, desk, WEIGHT) {
-        return false;
-    }
-    if field_at(store, desk, RESERVE) < 1 {
-        return false;
-    }
-    if LONGEST < field_at(store, desk, SIZE_FIRST) {
-        return false;
-    }
-    field_at(store, desk, SIZE_SECOND) <= LONGEST
+    let a = desk.symbols();
+    FEWEST_SYMBOLS <= a
+        && a <= MOST_SYMBOLS
+        && desk.depth() <= DEEPEST
+        && desk.weight() <= MOST_WEIGHT
+        && 1 <= desk.reserve()
+        && desk.size(Sample::First) <= LONGEST
+        && desk.size(Sample::Second) <= LONGEST
 }
 
 // Whether the places of a desk's recent symbols have symbols.
-fn slots_ok(store: &[u32], desk: usize) -> bool
-    requires { (header_size ≤ length store.now) × (desk < desks) }
-    ensures { result ≡ slots_ok store.now desk }
+fn slots_ok(desk: DeskNumbers) -> bool
+    ensures { result ≡ slots_ok desk.entry.store.now desk.entry.desk }
 {
-    let a = field_at(store, desk, SYMBOLS);
-    let start = FIRST_DESK + DESK_SIZE * desk;
-    let from = start + RECENT_FIRST;
-    let to = from + SLOTS;
-    if all_below(&store[from..to], a) {
-        let from = start + RECENT_SECOND;
-        let to = from + SLOTS;
-        return all_below(&store[from..to], a);
-    }
-    false
+    let a = desk.symbols();
+    all_below(desk.recent(Sample::First), a) && all_below(desk.recent(Sample::Second), a)
 }
 
-// Whether every symbol of a part is below `a`.
+// Whether every symbol of a part is below `a`. No plainer as one with writing's, which reads bytes: each is one call of std's `all`.
 fn all_below(part: &[u32], a: u32) -> bool
     ensures { result ≡ all (of_alphabet a) part.now }
 {
-    let mut i: usize = 0;
-    while i < part.len() {
-        if part[i] < a {
-            i = i + 1;
-        } else {
-            return false;
-        }
-    }
-    true
+    part.iter().all(|&symbol| symbol < a)
 }
 
 // What the open desks have reserved.
-pub fn reserved(store: &[u32]) -> u64
-    requires { header_size ≤ length store.now }
-    ensures { result ≡ sum desks (reserved_at store.now) }
+pub fn reserved(header: Header) -> u64
+    ensures { result ≡ sum desks (reserved_at header.entry.store.now) }
 {
-    let mut sum: u64 = 0;
-    let mut desk: usize = 0;
-    while desk < DESKS {
-        sum = sum + reserved_at(store, desk);
-        desk = desk + 1;
+    let mut all = 0;
+    for desk in 0..DESKS {
+        all += reserved_at(DeskNumbers {
+            store: header.store,
+            desk,
+        });
     }
-    sum
+    all
 }
 
 // What a desk has reserved.
-fn reserved_at(store: &[u32], desk: usize) -> u64
-    requires { (header_size ≤ length store.now) × (desk < desks) }
-    ensures { (result ≡ reserved_at store.now desk) × (result < 4294967296) }
+fn reserved_at(desk: DeskNumbers) -> u64
+    ensures { (result ≡ reserved_at desk.entry.store.now desk.entry.desk) × (result < 4294967296) }
 {
-    if field_at(store, desk, OPEN) == 1 {
-        return field_at(store, desk, RESERVE) as u64;
+    if desk.is_open() {
+        u64::from(desk.reserve())
+    } else {
+        0
     }
-    0
 }

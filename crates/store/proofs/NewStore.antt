@@ -19,8 +19,8 @@ use Rattle.store.specs.Layout.{header_size, store_size, room, desk_start, is_ope
 use Rattle.store.specs.Sound.{desk_ok, held_by, reserved_at, soundb}
 use Rattle.store.specs.Meaning.{desk_at, meaning}
 use Rattle.store.specs.Making.{made_of, Makes}
-use Rattle.store.specs.declared.Made.{Made}
-use Rattle.store.specs.declared.Made.TheVariants.{Done}
+use Rattle.store.specs.declared.Refusal.{Refusal}
+use Rattle.std.specs.Prelude.{Ok, Err}
 use Rattle.store.proofs.Desks.{desk_shut}
 use Rattle.store.proofs.Passing.{passes}
 use Rattle.store.proofs.Fitting.{desk_closed}
@@ -88,17 +88,17 @@ module _ (K : ℕ) (s : List ℕ) (f : Fresh K s) where
 
 -- ---- the code's ways
 
-pub making_refused : (K : ℕ) (s : List ℕ) (a : Made) → a ≡ made_of K (length s) → (a ≡ Done → ⊥) → Makes K s a s
-making_refused K s a e n = record {
+pub making_refused : (K : ℕ) (s : List ℕ) (why : Refusal) → Err why ≡ made_of K (length s) → Makes K s (Err why) s
+making_refused K s why e = record {
   answered = e;
-  sound_after = λ q. absurd (n q);
-  means = λ q. absurd (n q);
-  rest_kept = λ q. absurd (n q);
+  sound_after = λ q. cc;
+  means = λ q. cc;
+  rest_kept = λ q. cc;
   length_kept = refl;
   refused_kept = λ q. refl;
 }
 
-pub making_done : (K : ℕ) (s x : List ℕ) → 1 ≤ K → K ≤ most_room → store_size K ≤ length s → x ≡ set (replicate header_size 0 ++ drop header_size s) 0 K → Makes K s Done x
+pub making_done : (K : ℕ) (s x : List ℕ) → 1 ≤ K → K ≤ most_room → store_size K ≤ length s → x ≡ set (replicate header_size 0 ++ drop header_size s) 0 K → Makes K s (Ok tt) x
 making_done K s x low high long e =
     let some : 0 < header_size = omega arith in
     let enough : header_size ≤ length s = omega arith in

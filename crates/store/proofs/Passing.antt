@@ -2,7 +2,7 @@
 use mathlib.Core.Path.{◌≡◌, ap, subst, ◌∙◌}
 use mathlib.Core.Bool.{true, ◌&&◌, ◌||◌}
 use mathlib.Core.List.{List, []}
-use Prim.Native.Nat.{ℕ, ◌≤◌, ◌<◌}
+use Prim.Native.Nat.{ℕ, ◌≤◌}
 use native.Mathlib.Omega.{arith}
 use lib.Dec.{T, ltb, eqb, leb→le, le→leb, ltb→lt, eqb→eq}
 use lib.ListN.{length, drop, get_or, length-take, get_or-eq_default}
@@ -53,9 +53,6 @@ passed s e =
 -- a sound store has its header, so a desk's numbers can be read
 pub header_long : (s : List ℕ) → soundb s ≡ true → header_size ≤ length s
 header_long s h = omega (arith, (passed s h).framed.long)
-
-pub field_readable : (s : List ℕ) → soundb s ≡ true → (d : ℕ) → d < desks → (f : ℕ) → f < 32 → (header_size ≤ length s) × (d < desks) × (f < 32)
-field_readable s h d l f m = (header_long s h, l, m)
 
 pub passes : (s : List ℕ) → Passed s → soundb s ≡ true
 unfolding soundb records_ok

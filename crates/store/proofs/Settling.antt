@@ -2,34 +2,32 @@
 use mathlib.Core.Path.{◌≡◌, refl, sym, ap, ◌∙◌}
 use mathlib.Core.List.{List}
 use Prim.Native.Nat.{ℕ}
-use native.Mathlib.Omega.{arith}
 use lib.ListN.{length, drop}
 use Rattle.store.specs.Layout.{store_size}
 use Rattle.store.specs.Sound.{soundb}
 use Rattle.store.specs.Meaning.{meaning}
 use Rattle.store.specs.Making.{Makes}
-use Rattle.store.specs.declared.Made.{Made}
-use Rattle.store.specs.declared.Made.TheVariants.{Done, RoomOutside, StoreShort}
+use Rattle.store.specs.declared.Refusal.{Refusal}
+use Rattle.std.specs.Prelude.{Result, Ok, Err}
 
 -- what two makings have in common
-pub record SameMaking (K : ℕ) (a b : Made) (x y : List ℕ) : Type 0 where
+pub record SameMaking (K : ℕ) (a b : Result (Unit {0}) Refusal) (x y : List ℕ) : Type 0 where
   pub answers : a ≡ b
   pub sounds : soundb x ≡ soundb y
   pub meanings : meaning x ≡ meaning y
   pub rests : drop (store_size K) x ≡ drop (store_size K) y
   pub lengths : length x ≡ length y
-  pub refused : (a ≡ Done → ⊥) → x ≡ y
+  pub refused : (a ≡ Ok tt → ⊥) → x ≡ y
 
-done? : (a : Made) → Dec (a ≡ Done)
-done? Done = yes refl
-done? RoomOutside = no (λ e. let z : ◌≡◌ {A = ℕ} 0 1 = cc in omega arith)
-done? StoreShort = no (λ e. let z : ◌≡◌ {A = ℕ} 0 1 = cc in omega arith)
+done? : (a : Result (Unit {0}) Refusal) → Dec (a ≡ Ok tt)
+done? (Ok u) = yes refl
+done? (Err why) = no (λ e. cc)
 
 -- THEOREM. Two makings of one room with the same numbers answer the same and leave the same meaning; where they refuse, the same numbers
-pub make_settled : (K : ℕ) (s : List ℕ) (a b : Made) (x y : List ℕ) → Makes K s a x → Makes K s b y → SameMaking K a b x y
+pub make_settled : (K : ℕ) (s : List ℕ) (a b : Result (Unit {0}) Refusal) (x y : List ℕ) → Makes K s a x → Makes K s b y → SameMaking K a b x y
 make_settled K s a b x y m n = elim (done? a) [
   | yes e ↦
-      let f : b ≡ Done = sym same ∙ e in
+      let f : b ≡ Ok tt = sym same ∙ e in
       record {
         answers = same;
         sounds = m.sound_after e ∙ sym (n.sound_after f);

@@ -3,47 +3,44 @@
 
 pub mod layout;
 
-ghost use Rattle.std.specs.Prelude.{◌≡◌, length, replicate};
-ghost use Rattle.store.specs.Making.{Makes};
+ghost use Rattle.std.specs.Prelude.{◌≡◌};
+ghost use Rattle.store.specs.Making.{Makes, refusal_number};
 
 use layout::{HEADER, ROOM};
 use numbers::MOST_ROOM;
 use records::WIDTH;
 
-// What a making answers. `refusal_of` of specs/Making.antt has document 01's number of each.
-#[derive(Clone, Copy)]
-pub enum Made {
-    Done,
+// The refusals of document 01 that a making can get.
+#[derive(Clone, Copy, Debug, PartialEq, Eq)]
+pub enum Refusal {
     RoomOutside,
     StoreShort,
 }
 
+// A refusal's number in the document.
+impl From<Refusal> for u32 {
+    ghost from_gives = { λ why number. number ≡ refusal_number why };
+
+    fn from(why: Refusal) -> u32 {
+        match why {
+            Refusal::RoomOutside => 17,
+            Refusal::StoreShort => 18,
+        }
+    }
+}
+
 // Makes a store for `room` contexts of the numbers lent, whatever they are.
-pub fn make(store: &mut [u32], room: u32) -> Made
+pub fn make(store: &mut [u32], room: u32) -> Result<(), Refusal>
     ensures { Makes room store.old result store.new }
 {
     let many = room as usize;
-    if many < 1 {
-        return Made::RoomOutside;
-    }
-    if MOST_ROOM < many {
-        return Made::RoomOutside;
+    if many < 1 || MOST_ROOM < many {
+        return Err(Refusal::RoomOutside);
     }
     if store.len() < HEADER + WIDTH * many {
-        return Made::StoreShort;
+        return Err(Refusal::StoreShort);
     }
-    clear(&mut store[..HEADER]);
+    store[..HEADER].fill(0);
     store[ROOM] = room;
-    Made::Done
-}
-
-// Writes 0 to every number of a part.
-fn clear(part: &mut [u32])
-    ensures { part.new ≡ replicate (length part.old) 0 }
-{
-    let mut i: usize = 0;
-    while i < part.len() {
-        part[i] = 0;
-        i = i + 1;
-    }
+    Ok(())
 }

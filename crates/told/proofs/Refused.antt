@@ -8,18 +8,15 @@ use lib.Ieee.{Float}
 use Rattle.replay.specs.Table.{Outcome, refused}
 use Rattle.replay.specs.Machine.{Call, room_question}
 use Rattle.rules.specs.Rules.{Answer, rules}
-use Rattle.calls.specs.Refusals.{outcome_of, room_of, written_of, ending_of, charted_of}
+use Rattle.calls.specs.Refusals.{outcome_of, room_of, written_of, charted_of}
 use Rattle.calls.specs.Promises.{Moves, Asks, Reports}
-use Rattle.calls.specs.declared.RoomLeft.{RoomLeft}
-use Rattle.calls.specs.declared.RoomLeft.TheVariants as question
-use Rattle.calls.specs.declared.ReportAnswer.{ReportAnswer}
-use Rattle.calls.specs.declared.ReportAnswer.TheVariants as written
 use Rattle.calls.specs.Run.{Runs}
-use Rattle.calls.specs.declared.ChartAnswer.{ChartAnswer}
-use Rattle.calls.specs.declared.ChartAnswer.TheVariants as asked
+use Rattle.std.specs.Prelude.{Result, Ok, Err}
+use Rattle.calls.specs.declared.Refusal.{Refusal}
+use Rattle.chart.specs.declared.Chart.{Chart}
+use Rattle.calls.specs.declared.Reported as written
 use Rattle.sitting_file.specs.Format.{read_of}
-use Rattle.sitting_file.specs.declared.Reading.{Reading}
-use Rattle.sitting_file.specs.declared.Reading.TheVariants as reading
+use Rattle.sitting_file.specs.Format.{Reading}
 use Rattle.writing.specs.Writing.{WritesFile, writing_outcome}
 use Rattle.salvage.specs.Salvage.{Saved, Salvages}
 use Rattle.told.specs.Codes.{told_as, read_code}
@@ -35,36 +32,36 @@ module _ {s t : List ℕ} {c : Call rules} where
 -- ---- a run of feeds
 module _ {s t symbols : List ℕ} {d k r : ℕ} where
   pub run_refused : {n : ℕ} → RunTold s d k symbols r (suc n) t → Runs s d k symbols r (refused (suc n)) t
-  run_refused {n} m = subst (λ (o : Outcome Answer). Runs s d k symbols r o t) (refused_by (ending_of m.ending) n m.number) m.promise
+  run_refused {n} m = subst (λ (o : Outcome Answer). Runs s d k symbols r o t) (refused_by (outcome_of m.ending) n m.number) m.promise
 
 -- ---- the room question
 module _ {s : List ℕ} {old left : ℕ} where
   pub room_refused : {n : ℕ} → RoomTold s (suc n) old left → Asks s room_question (refused (suc n)) × (left ≡ old)
   room_refused {n} m = go m.answer m.promise m.number m.output
     where
-      go : (x : RoomLeft) → Asks s room_question (room_of x) → suc n ≡ told_as (room_of x) → left ≡ left_after x old → Asks s room_question (refused (suc n)) × (left ≡ old)
-      go (question.Contexts k) p e o = absurd (omega (arith, e))
-      go (question.Refused why) p e o = (subst (λ (k : ℕ). Asks s room_question (refused k)) (sym e) p, o)
+      go : (x : Result ℕ Refusal) → Asks s room_question (room_of x) → suc n ≡ told_as (room_of x) → left ≡ left_after x old → Asks s room_question (refused (suc n)) × (left ≡ old)
+      go (Ok k) p e o = absurd (omega (arith, e))
+      go (Err why) p e o = (subst (λ (k : ℕ). Asks s room_question (refused k)) (sym e) p, o)
 
 -- ---- a report
 module _ {s : List ℕ} {d place : ℕ} {before after : List ℕ} {old rows : ℕ} {was score : ℤ} where
   pub report_refused : {n : ℕ} → ReportTold s d place (suc n) before after old rows was score → Reports s d place (refused (suc n)) before after × (rows ≡ old) × (score ≡ was)
   report_refused {n} m = go m.answer m.promise m.number m.row_count m.its_score
     where
-      go : (x : ReportAnswer) → Reports s d place (written_of x place after) before after → suc n ≡ told_as (written_of x place after) → rows ≡ rows_after x old → score ≡ score_after x was
+      go : (x : Result written.Reported Refusal) → Reports s d place (written_of x place after) before after → suc n ≡ told_as (written_of x place after) → rows ≡ rows_after x old → score ≡ score_after x was
           → Reports s d place (refused (suc n)) before after × (rows ≡ old) × (score ≡ was)
-      go (written.Rows k z) p e f g = absurd (omega (arith, e))
-      go (written.Refused why) p e f g = (subst (λ (k : ℕ). Reports s d place (refused k) before after) (sym e) p, f, g)
+      go (Ok r) p e f g = absurd (omega (arith, e))
+      go (Err why) p e f g = (subst (λ (k : ℕ). Reports s d place (refused k) before after) (sym e) p, f, g)
 
 -- ---- a chart question
 module _ {s : List ℕ} {d len code a old seen : ℕ} {first first' second second' gap gap' : Float} where
   pub chart_refused : {n : ℕ} → ChartTold s d len code a (suc n) old seen first first' second second' gap gap' → (seen ≡ old) × (first' ≡ first) × (second' ≡ second) × (gap' ≡ gap)
   chart_refused {n} m = go m.answer m.number m.seen_by m.its_first m.its_second m.its_gap
     where
-      go : (x : ChartAnswer) → suc n ≡ told_as (charted_of x) → seen ≡ seen_after x old → first' ≡ first_after x first → second' ≡ second_after x second → gap' ≡ gap_after x gap
+      go : (x : Result Chart Refusal) → suc n ≡ told_as (charted_of x) → seen ≡ seen_after x old → first' ≡ first_after x first → second' ≡ second_after x second → gap' ≡ gap_after x gap
           → (seen ≡ old) × (first' ≡ first) × (second' ≡ second) × (gap' ≡ gap)
-      go (asked.Answered t) e f g h k = absurd (omega (arith, e))
-      go (asked.Refused why) e f g h k = (f, g, h, k)
+      go (Ok t) e f g h k = absurd (omega (arith, e))
+      go (Err why) e f g h k = (f, g, h, k)
 
 -- ---- a file
 module _ {bytes old new : List ℕ} where
@@ -72,8 +69,8 @@ module _ {bytes old new : List ℕ} where
   read_refused {n} m = go (read_of bytes) m.number m.output
     where
       go : (x : Reading) → suc n ≡ read_code x → new ≡ shape_after x old → new ≡ old
-      go (reading.Accepted x) e f = absurd (omega (arith, e))
-      go (reading.Refused why) e f = f
+      go (Ok x) e f = absurd (omega (arith, e))
+      go (Err why) e f = f
 
 -- ---- a file that is not written: the bytes and the length stay
 module _ {A D : ℕ} {xs ys before after : List ℕ} {old size : ℕ} where

@@ -8,8 +8,8 @@ use Rattle.sitting_file.specs.Format.{read_of}
 use Rattle.sitting_file.specs.Samples.{first_of, second_of}
 use Rattle.sitting_file.specs.Verdict.{Bytes}
 use Rattle.sitting_file.specs.declared.Shape.{Shape}
-use Rattle.sitting_file.specs.declared.Reading.{Reading}
-use Rattle.sitting_file.specs.declared.Reading.TheVariants.{Accepted}
+use Rattle.sitting_file.specs.Format.{Reading}
+use Rattle.std.specs.Prelude.{Ok}
 use Rattle.writing.specs.Writing.{writing_outcome}
 use Rattle.writing.specs.RoundTrips.{ReadsAs}
 use Rattle.writing.proofs.RoundTrip.{reads_back, writes_back}
@@ -40,8 +40,8 @@ module _ {file old : List ℕ} {A D n m : ℕ} (bytes : Bytes file) (read : Read
   abbrev shape : Shape
   shape = shaped A D n m
 
-  announced : read_of file ≡ Accepted shape
-  announced = let a = read_accepted read in a.accepted ∙ ap Accepted (same_shape A D n m a.shape a.output)
+  announced : read_of file ≡ Ok shape
+  announced = let a = read_accepted read in a.accepted ∙ ap Ok (same_shape A D n m a.shape a.output)
 
   -- THEOREM. They and its last n + m bytes, written again where as many bytes are lent, are accepted and the same bytes
   pub write_again : {before after : List ℕ} {r was size : ℕ} → length file ≤ length before → WriteTold A D (first_of file shape) (second_of file shape) before r after was size

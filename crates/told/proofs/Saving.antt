@@ -9,12 +9,11 @@ use lib.Seq.{length-take-le}
 use Rattle.replay.specs.Table.{Outcome, refused, answered}
 use Rattle.sitting_file.specs.Format.{read_of}
 use Rattle.sitting_file.specs.Verdict.{Bytes}
-use Rattle.salvage.specs.Salvage.{loss_numbers, Saved, refusal_number, salvage_outcome, Within, Salvages}
+use Rattle.std.specs.Prelude.{Ok, Err}
+use Rattle.salvage.specs.Salvage.{loss_numbers, Saved, Salvaging, refusal_number, salvage_outcome, Within, Salvages}
 use Rattle.salvage.specs.Saving.{Saves}
-use Rattle.salvage.specs.declared.Lost.{Lost}
 use Rattle.salvage.specs.declared.Refusal.{Refusal}
 use Rattle.salvage.specs.declared.Salvaged.{Salvaged}
-use Rattle.salvage.specs.declared.Salvaged.TheVariants as salvaged
 use Rattle.salvage.proofs.Saving.{each_saves}
 use Rattle.salvage.proofs.Sound.{sound_same}
 use Rattle.salvage.proofs.Refusing.{no_other, never_longer}
@@ -25,23 +24,23 @@ use Rattle.told.proofs.Accepted.{read_accepted}
 use Rattle.told.proofs.Numbers.{fault_above_zero, refused_by}
 
 -- ---- from the call's own promise
-module _ {damaged before after : List ℕ} {old : ℕ} {was : List ℕ} (x : Salvaged) (p : Salvages damaged before (salvage_outcome x after) after × Within x after) where
-  pub salvage_refused : {why : Refusal} {r : ℕ} → x ≡ salvaged.Refused why → r ≡ refusal_number why → SalvageTold damaged before r after old old was was
+module _ {damaged before after : List ℕ} {old : ℕ} {was : List ℕ} (x : Salvaging) (p : Salvages damaged before (salvage_outcome x after) after × Within x after) where
+  pub salvage_refused : {why : Refusal} {r : ℕ} → x ≡ Err why → r ≡ refusal_number why → SalvageTold damaged before r after old old was was
   salvage_refused e n = record {
     answer = salvage_outcome x after;
     promise = p.0;
-    number = n ∙ sym (ap (λ (a : Salvaged). told_as (salvage_outcome a after)) e);
-    output = sym (ap (λ (a : Salvaged). size_after (salvage_outcome a after) old) e);
-    lost = sym (ap (λ (a : Salvaged). losses_after (salvage_outcome a after) was) e);
+    number = n ∙ sym (ap (λ (a : Salvaging). told_as (salvage_outcome a after)) e);
+    output = sym (ap (λ (a : Salvaging). size_after (salvage_outcome a after) old) e);
+    lost = sym (ap (λ (a : Salvaging). losses_after (salvage_outcome a after) was) e);
   }
 
-  pub salvage_told : {size : ℕ} {lost : Lost} → x ≡ salvaged.File size lost → SalvageTold damaged before 0 after old size was (loss_numbers lost)
-  salvage_told {size} e = record {
+  pub salvage_told : {done : Salvaged} → x ≡ Ok done → SalvageTold damaged before 0 after old done.size was (loss_numbers done.lost)
+  salvage_told {done} e = record {
     answer = salvage_outcome x after;
     promise = p.0;
-    number = sym (ap (λ (a : Salvaged). told_as (salvage_outcome a after)) e);
-    output = sym (length-take-le size after (subst (λ (a : Salvaged). Within a after) e p.1)) ∙ sym (ap (λ (a : Salvaged). size_after (salvage_outcome a after) old) e);
-    lost = sym (ap (λ (a : Salvaged). losses_after (salvage_outcome a after) was) e);
+    number = sym (ap (λ (a : Salvaging). told_as (salvage_outcome a after)) e);
+    output = sym (length-take-le done.size after (subst (λ (a : Salvaging). Within a after) e p.1)) ∙ sym (ap (λ (a : Salvaging). size_after (salvage_outcome a after) old) e);
+    lost = sym (ap (λ (a : Salvaging). losses_after (salvage_outcome a after) was) e);
   }
 
 -- ---- 0 means that a file was saved, and its outputs are that file's

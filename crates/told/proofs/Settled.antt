@@ -12,13 +12,10 @@ use Rattle.rows.proofs.Written.{rows_read}
 use Rattle.rules.specs.Rules.{Answer, done, contexts_left, reported, point, charting}
 use Rattle.chart.specs.declared.Chart.{Chart}
 use Rattle.calls.specs.Refusals.{room_of, written_of, charted_of}
-use Rattle.calls.specs.declared.RoomLeft.{RoomLeft}
-use Rattle.calls.specs.declared.RoomLeft.TheVariants as question
-use Rattle.calls.specs.declared.ReportAnswer.{ReportAnswer}
-use Rattle.calls.specs.declared.ReportAnswer.TheVariants as written
 use Rattle.calls.proofs.Settled.{asks_settled, reports_settled}
-use Rattle.calls.specs.declared.ChartAnswer.{ChartAnswer}
-use Rattle.calls.specs.declared.ChartAnswer.TheVariants as asked
+use Rattle.std.specs.Prelude.{Result, Ok, Err}
+use Rattle.calls.specs.declared.Refusal.{Refusal}
+use Rattle.calls.specs.declared.Reported as written
 use Rattle.writing.specs.Writing.{writing_outcome}
 use Rattle.writing.proofs.Settled.{writing_settled}
 use Rattle.salvage.specs.Salvage.{Saved}
@@ -57,40 +54,40 @@ score_in (contexts_left n) old = old
 score_in (reported x) old = x.score
 score_in (point x) old = old
 
-left_from : (x : RoomLeft) (old : ℕ) → left_after x old ≡ from left_in (room_of x) old
+left_from : (x : Result ℕ Refusal) (old : ℕ) → left_after x old ≡ from left_in (room_of x) old
 unfolding from left_in
-left_from (question.Contexts n) old = refl
-left_from (question.Refused why) old = refl
+left_from (Ok n) old = refl
+left_from (Err why) old = refl
 
-rows_from_lem : (x : ReportAnswer) (place : ℕ) (sheet : List ℕ) (old : ℕ) → rows_after x old ≡ from rows_in (written_of x place sheet) old
+rows_from_lem : (x : Result written.Reported Refusal) (place : ℕ) (sheet : List ℕ) (old : ℕ) → rows_after x old ≡ from rows_in (written_of x place sheet) old
 unfolding from rows_in
-rows_from_lem (written.Rows n z) place sheet old = rows_read n (drop (row_width * place) sheet)
-rows_from_lem (written.Refused why) place sheet old = refl
+rows_from_lem (Ok r) place sheet old = rows_read r.rows (drop (row_width * place) sheet)
+rows_from_lem (Err why) place sheet old = refl
 
-score_from : (x : ReportAnswer) (place : ℕ) (sheet : List ℕ) (old : ℤ) → score_after x old ≡ from score_in (written_of x place sheet) old
+score_from : (x : Result written.Reported Refusal) (place : ℕ) (sheet : List ℕ) (old : ℤ) → score_after x old ≡ from score_in (written_of x place sheet) old
 unfolding from score_in
-score_from (written.Rows n z) place sheet old = refl
-score_from (written.Refused why) place sheet old = refl
+score_from (Ok r) place sheet old = refl
+score_from (Err why) place sheet old = refl
 
-seen_from : (x : ChartAnswer) (old : ℕ) → seen_after x old ≡ from (charted (λ (t : Chart) (was : ℕ). seen_in t)) (charted_of x) old
+seen_from : (x : Result Chart Refusal) (old : ℕ) → seen_after x old ≡ from (charted (λ (t : Chart) (was : ℕ). seen_in t)) (charted_of x) old
 unfolding from charted
-seen_from (asked.Answered t) old = refl
-seen_from (asked.Refused why) old = refl
+seen_from (Ok t) old = refl
+seen_from (Err why) old = refl
 
-first_from : (x : ChartAnswer) (old : Float) → first_after x old ≡ from (charted first_in) (charted_of x) old
+first_from : (x : Result Chart Refusal) (old : Float) → first_after x old ≡ from (charted first_in) (charted_of x) old
 unfolding from charted
-first_from (asked.Answered t) old = refl
-first_from (asked.Refused why) old = refl
+first_from (Ok t) old = refl
+first_from (Err why) old = refl
 
-second_from : (x : ChartAnswer) (old : Float) → second_after x old ≡ from (charted second_in) (charted_of x) old
+second_from : (x : Result Chart Refusal) (old : Float) → second_after x old ≡ from (charted second_in) (charted_of x) old
 unfolding from charted
-second_from (asked.Answered t) old = refl
-second_from (asked.Refused why) old = refl
+second_from (Ok t) old = refl
+second_from (Err why) old = refl
 
-gap_from : (x : ChartAnswer) (old : Float) → gap_after x old ≡ from (charted gap_in) (charted_of x) old
+gap_from : (x : Result Chart Refusal) (old : Float) → gap_after x old ≡ from (charted gap_in) (charted_of x) old
 unfolding from charted
-gap_from (asked.Answered t) old = refl
-gap_from (asked.Refused why) old = refl
+gap_from (Ok t) old = refl
+gap_from (Err why) old = refl
 
 -- two outputs that stand so to one outcome
 both : {B : Type 0} (f : Answer → B → B) (old : B) {o p : Outcome Answer} {x y x' y' : B} → o ≡ p → x ≡ x' → x' ≡ from f o old → y ≡ y' → y' ≡ from f p old → x ≡ y

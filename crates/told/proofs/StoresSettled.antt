@@ -6,7 +6,7 @@ use Rattle.replay.specs.Machine.{Call}
 use Rattle.rules.specs.Rules.{rules}
 use Rattle.store.specs.Making.{refusal_of}
 use Rattle.store.proofs.Settling.{SameMaking, make_settled}
-use Rattle.calls.specs.Refusals.{outcome_of, ending_of}
+use Rattle.calls.specs.Refusals.{outcome_of}
 use Rattle.calls.proofs.Settled.{SameMove, moves_settled}
 use Rattle.calls.proofs.RunSettled.{SameRun, runs_settled}
 use Rattle.told.specs.Codes.{told_as}
@@ -27,7 +27,7 @@ move_one {s} {c} {r} {q} {x} {y} m n =
 
 -- THEOREM. The same of two runs of feeds, which have one reason to end besides; none accepted: the same numbers
 pub run_one : {s symbols : List ℕ} {d k r q why how : ℕ} {x y : List ℕ} (m : RunTold s d k symbols r why x) (n : RunTold s d k symbols q how y)
-    → (why ≡ how) × SameRun s r q (ending_of m.ending) (ending_of n.ending) x y
+    → (why ≡ how) × SameRun s r q (outcome_of m.ending) (outcome_of n.ending) x y
 run_one {s} {symbols} {d} {k} {r} {q} {why} {how} {x} {y} m n =
-    let same = runs_settled s d k symbols r q (ending_of m.ending) (ending_of n.ending) x y m.promise n.promise in
+    let same = runs_settled s d k symbols r q (outcome_of m.ending) (outcome_of n.ending) x y m.promise n.promise in
     (m.number ∙ ap told_as same.ending_same ∙ sym n.number, same)

@@ -1,36 +1,32 @@
 -- What stands in an output after an answer, from what stood there before: a refused call writes no output. Assumes nothing.
 use Rattle.std.specs.Prelude.{ℕ, List, [], ◌∷◌, ℤ, length, Float}
 use Rattle.replay.specs.Table.{Outcome, refused, answered}
-use Rattle.calls.specs.declared.RoomLeft.{RoomLeft}
-use Rattle.calls.specs.declared.RoomLeft.TheVariants as question
-use Rattle.calls.specs.declared.ReportAnswer.{ReportAnswer}
-use Rattle.calls.specs.declared.ReportAnswer.TheVariants as written
-use Rattle.sitting_file.specs.declared.Reading.{Reading}
-use Rattle.sitting_file.specs.declared.Reading.TheVariants as reading
+use Rattle.sitting_file.specs.Format.{Reading}
 use Rattle.salvage.specs.Salvage.{loss_numbers, Saved}
 use Rattle.chart.specs.declared.Chart.{Chart}
 use Rattle.chart.specs.declared.Chart.TheVariants as chart
-use Rattle.calls.specs.declared.ChartAnswer.{ChartAnswer}
-use Rattle.calls.specs.declared.ChartAnswer.TheVariants as asked
+use Rattle.std.specs.Prelude.{Result, Ok, Err}
+use Rattle.calls.specs.declared.Refusal.{Refusal}
+use Rattle.calls.specs.declared.Reported as written
 
 -- how many contexts are left
-abbrev pub left_after : RoomLeft → ℕ → ℕ
-left_after (question.Contexts n) old = n
-left_after (question.Refused why) old = old
+abbrev pub left_after : Result ℕ Refusal → ℕ → ℕ
+left_after (Ok n) old = n
+left_after (Err why) old = old
 
 -- a report's row count and score
-abbrev pub rows_after : ReportAnswer → ℕ → ℕ
-rows_after (written.Rows n score) old = n
-rows_after (written.Refused why) old = old
+abbrev pub rows_after : Result written.Reported Refusal → ℕ → ℕ
+rows_after (Ok r) old = r.rows
+rows_after (Err why) old = old
 
-abbrev pub score_after : ReportAnswer → ℤ → ℤ
-score_after (written.Rows n score) old = score
-score_after (written.Refused why) old = old
+abbrev pub score_after : Result written.Reported Refusal → ℤ → ℤ
+score_after (Ok r) old = r.score
+score_after (Err why) old = old
 
 -- A, D, n and m
 abbrev pub shape_after : Reading → List ℕ → List ℕ
-shape_after (reading.Accepted x) old = x.alphabet ∷ x.depth ∷ x.first ∷ x.second ∷ []
-shape_after (reading.Refused why) old = old
+shape_after (Ok x) old = x.alphabet ∷ x.depth ∷ x.first ∷ x.second ∷ []
+shape_after (Err why) old = old
 
 -- the length of a file that was written
 abbrev pub length_after : Outcome ℕ → ℕ → ℕ
@@ -74,18 +70,18 @@ gap_in (chart.Second y) old = old
 gap_in (chart.Both p) old = p.gap
 
 -- the same after a chart question
-abbrev pub seen_after : ChartAnswer → ℕ → ℕ
-seen_after (asked.Answered x) old = seen_in x
-seen_after (asked.Refused why) old = old
+abbrev pub seen_after : Result Chart Refusal → ℕ → ℕ
+seen_after (Ok x) old = seen_in x
+seen_after (Err why) old = old
 
-abbrev pub first_after : ChartAnswer → Float → Float
-first_after (asked.Answered x) old = first_in x old
-first_after (asked.Refused why) old = old
+abbrev pub first_after : Result Chart Refusal → Float → Float
+first_after (Ok x) old = first_in x old
+first_after (Err why) old = old
 
-abbrev pub second_after : ChartAnswer → Float → Float
-second_after (asked.Answered x) old = second_in x old
-second_after (asked.Refused why) old = old
+abbrev pub second_after : Result Chart Refusal → Float → Float
+second_after (Ok x) old = second_in x old
+second_after (Err why) old = old
 
-abbrev pub gap_after : ChartAnswer → Float → Float
-gap_after (asked.Answered x) old = gap_in x old
-gap_after (asked.Refused why) old = old
+abbrev pub gap_after : Result Chart Refusal → Float → Float
+gap_after (Ok x) old = gap_in x old
+gap_after (Err why) old = old

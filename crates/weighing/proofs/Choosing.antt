@@ -13,7 +13,8 @@ use Rattle.estimate.specs.Table.{for_kind}
 use Rattle.estimate.proofs.Unseen.{Flat}
 use Rattle.weighing.specs.declared.Weighed.{Weighed}
 use Rattle.weighing.specs.Trees.{least_at, members_at, mark_at}
-use Rattle.weighing.specs.Visit.{LeafOf, SplitOf, SumOf, SumFits, leaf_mark, split_mark}
+use Rattle.estimate.specs.Adding.{SumOf, SumFits}
+use Rattle.weighing.specs.Visit.{LeafOf, SplitOf, leaf_mark, split_mark}
 use Rattle.weighing.proofs.Standing.{least_leaf, joint_leaf, members_leaf, members_joint_leaf, mark_leaf, less_below, members_below, least_split, joint_split, members_split, members_joint_split, mark_split}
 use Rattle.weighing.proofs.Flat.{least_flat, members_flat}
 

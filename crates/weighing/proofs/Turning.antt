@@ -18,13 +18,14 @@ use Rattle.estimate.specs.declared.ByKind.{ByKind}
 use Rattle.estimate.specs.Table.{for_kind}
 use Rattle.rows.specs.Walk.{older}
 use Rattle.records.specs.Records.{records, keys}
-use Rattle.records.specs.Held.{rank, held, Standing, Placed}
+use Rattle.records.specs.Held.{rank, held, Placed}
 use Rattle.weighing.specs.declared.Desk.{Desk}
 use Rattle.weighing.specs.declared.Context.{Context}
 use Rattle.weighing.specs.declared.Weighed.{Weighed}
 use Rattle.weighing.specs.Sitting.{sitting_in}
 use Rattle.weighing.specs.Trees.{least_at, members_at}
-use Rattle.weighing.specs.Visit.{end_of, Arrived, CanVisit, Marked, Apart, Visited, most_loss, LeafOf, SumFits, CanAdd, ChildOf, CanAddUnseen}
+use Rattle.estimate.specs.Adding.{SumFits}
+use Rattle.weighing.specs.Visit.{end_of, Arrived, CanVisit, Marked, Apart, Visited, most_loss, LeafOf, CanAdd, ChildOf, CanAddUnseen}
 use Rattle.weighing.proofs.Cursor.{turn_key, within, turn_at}
 use Rattle.records.proofs.Rising.{rank_mono}
 use Rattle.weighing.proofs.Blocks.{block_key}
@@ -84,7 +85,7 @@ module _ {k : Desk} {costs : ByKind} {n : ℕ} {l old : List ℕ} {c : Context} 
     child_is : context_of child ≡ older s a
     child_is = ap context_of child_key ∙ context_of_key k.number (older s a) (within k n l q.weighable (older s a) (steps.child_context q more a lt))
 
-    pub child_stands : Standing n l × Placed child n children.next l
+    pub child_stands : Placed child n children.next l
     child_stands = stands child_ready
 
     pub child_fits : child + c.span / 8 < 2 ^ 32

@@ -18,7 +18,7 @@ use Rattle.estimate.specs.Table.{for_kind, LossesOf}
 use Rattle.estimate.specs.declared.ByKind.{ByKind}
 use Rattle.estimate.proofs.Unseen.{Flat}
 use Rattle.records.specs.Records.{width, records, keys}
-use Rattle.records.specs.Held.{rank, held, record_at, count_table, Rising, Standing, Placed}
+use Rattle.records.specs.Held.{rank, held, record_at, count_table, Rising, Placed}
 use Rattle.records.proofs.Rising.{rank_within}
 use Rattle.records.proofs.Ranked.{held_lost}
 use Rattle.weighing.specs.declared.Desk.{Desk}
@@ -53,8 +53,8 @@ module _ {k : Desk} {costs : ByKind} {n : ℕ} {l s : List ℕ} {c : Context} {p
   f = losses (sitting_in k (records n l))
 
   -- the walk has come to its place
-  pub stands : Standing n l × Placed c.key n p l
-  stands = (q.weighable.standing, record { at = at_key; within = omega (arith, rank_within n l c.key, at_key) })
+  pub stands : Placed c.key n p l
+  stands = record { at = at_key; within = omega (arith, rank_within n l c.key, at_key) }
     where
       at_key : p ≡ rank c.key (keys (records n l))
       at_key = rw q.key_is q.place

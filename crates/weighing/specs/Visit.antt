@@ -8,6 +8,7 @@ use Rattle.contexts.specs.Sitting.{first, second, row_in, sum_of}
 use Rattle.estimate.specs.Trees.{Kind}
 use Rattle.estimate.specs.Recursion.{losses}
 use Rattle.estimate.specs.Table.{for_kind, CostsOf, most_cost, most_spread}
+use Rattle.estimate.specs.Adding.{SumOf, SumFits}
 use Rattle.estimate.specs.declared.ByKind.{ByKind}
 use Rattle.records.specs.Records.{width, records, keys}
 use Rattle.records.specs.Held.{rank, held, record_at, count_table}
@@ -122,18 +123,6 @@ pub record LeafHere (own : ByKind) (p : ℕ) (before after : List ℕ) (r : Weig
 pub record SplitHere (own : ByKind) (p : ℕ) (children : Weighed) (before after : List ℕ) (r : Weighed) : Type 0 where
   pub mark : after ≡ set before p (split_mark own children.least)
   pub is : SplitOf own children r
-
--- the sums of two, kind by kind
-pub record SumOf (x y r : ByKind) : Type 0 where
-  pub shared : r.shared ≡ x.shared + y.shared
-  pub first : r.first ≡ x.first + y.first
-  pub second : r.second ≡ x.second + y.second
-
--- .. which are numbers of 64 bits
-pub record SumFits (x y : ByKind) : Type 0 where
-  pub shared : x.shared + y.shared < 2 ^ 64
-  pub first : x.first + y.first < 2 ^ 64
-  pub second : x.second + y.second < 2 ^ 64
 
 -- no child yet
 pub record NoneOf (next : ℕ) (r : Weighed) : Type 0 where

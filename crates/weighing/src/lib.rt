@@ -1,22 +1,23 @@
 // The weighing of a desk's records, from the leaves to the root: what its trees lose at least, how many rows its report has, and the
-// decisions, kept beside the records. `logs` is what `logarithm::logs` gave, lent by the caller and only handed on to `estimate`.
+// decisions, kept beside the records. `logs` are logarithms that the caller lends, only handed on to `estimate`.
 #![tactic(auto)]
 
 ghost use Rattle.std.specs.Prelude.{◌≡◌, cond, not, ◌+◌, ◌≤◌, ◌<◌, ◌^◌, min, length, leb};
 ghost use Rattle.numbers.specs.Sum.{one};
 ghost use Rattle.contexts.specs.Keys.{context_of};
-ghost use Rattle.logarithm.specs.Table.{AreLogs};
 ghost use Rattle.estimate.specs.Table.{LossesOf};
 ghost use Rattle.records.specs.Held.{record_at, count_table};
 ghost use Rattle.weighing.specs.Trees.{choice};
+ghost use Rattle.weighing.specs.Marks.{number_of_choice, mark_number, choice_in, mark_in};
 ghost use Rattle.weighing.specs.Weighs.{CanWeigh, Weighs};
-ghost use Rattle.weighing.specs.Visit.{Countable, CanVisit, Visited, Small, LeafOf, LeafHere, SplitOf, SplitHere, SumOf, SumFits, NoneOf, CanAdd, ChildOf, CanAddUnseen, UnseenOf, leaf_mark, split_mark};
+ghost use Rattle.weighing.specs.Visit.{Countable, CanVisit, Visited, Small, LeafOf, LeafHere, SplitOf, SplitHere, NoneOf, CanAdd, ChildOf, CanAddUnseen, UnseenOf, leaf_mark, split_mark};
 
 use estimate::ByKind;
-use records::{DESK_SPAN, stands};
+use logarithm::LentLogs;
+use records::{DESK_SPAN, Held};
 
 // An open desk: its number, A, D, the weight and the samples' lengths.
-#[derive(Clone, Copy)]
+#[derive(Clone, Copy, Debug, PartialEq, Eq)]
 pub struct Desk {
     pub number: u32,
     pub symbols: u32,
@@ -27,7 +28,7 @@ pub struct Desk {
 }
 
 // What the trees of a desk's sitting lose at least, each alone and both together, and how many rows its report has.
-#[derive(Clone, Copy)]
+#[derive(Clone, Copy, Debug, PartialEq, Eq)]
 pub struct Least {
     pub first: u64,
     pub second: u64,
@@ -35,21 +36,28 @@ pub struct Least {
     pub rows: u64,
 }
 
-// Weighs the trees of a desk over the first `n` records, and keeps the decision at each of its contexts beside the record.
-pub fn weigh(logs: &[u32], numbers: &[u32], n: usize, desk: Desk, kept: &mut [u8]) -> Least
-    requires { AreLogs logs.now × CanWeigh desk n numbers.now kept.old }
-    ensures { Weighs desk n numbers.now kept.old kept.new result }
+// Weighs the trees of a desk over the records in use, and keeps the decision at each of its contexts beside the record.
+// What may not change: callers lend bytes, and `Decided` promises decisions as numbers, so `kept` is no slice of `Mark`.
+pub fn weigh(logs: LentLogs, held: Held, desk: Desk, kept: &mut [u8]) -> Least
+    requires { CanWeigh desk held.n held.numbers.now kept.old }
+    ensures { Weighs desk held.entry.n held.entry.numbers.now kept.old kept.new result }
 {
     let costs = estimate::costs_of(logs, desk.weight, desk.symbols, desk.n, desk.m);
+    let walk = Walk {
+        logs,
+        held,
+        desk,
+        costs,
+    };
     let key = desk.number * DESK_SPAN;
     let root = Context {
         key,
         span: DESK_SPAN,
         left: desk.depth,
     };
-    let at = records::place_of(numbers, n, key);
-    let w = if stands(numbers, n, at, key) {
-        visit(logs, numbers, kept, n, desk, costs, root, at)
+    let at = held.place_of(key);
+    let w = if held.stands(at, key) {
+        walk.visit(kept, root, at)
     } else {
         as_leaf(costs, at)
     };
@@ -80,46 +88,123 @@ pub struct Weighed {
     pub next: usize,
 }
 
-// The trees at a held context, whose place the walk has come to. A child that is not held is answered without a call.
-// The decision at each record of the context's block is kept beside it.
-fn visit(
-    logs: &[u32],
-    numbers: &[u32],
-    kept: &mut [u8],
-    n: usize,
-    desk: Desk,
-    costs: ByKind,
-    here: Context,
-    at: usize,
-) -> Weighed
-    requires { AreLogs logs.now × CanVisit desk costs n numbers.now kept.old here at }
-    ensures { Visited desk n numbers.now (context_of here.key) here.left at kept.old kept.new result }
-{
-    let own = losses_at(logs, numbers, at, costs);
-    if here.left == 0 {
-        return leaf_here(kept, at, own);
-    }
-    let span = here.span / 8;
-    let mut key = here.key + 1;
-    let mut children = none_yet(at + 1);
-    let mut a: u32 = 0;
-    while a < desk.symbols {
-        let next = children.next;
-        if stands(numbers, n, next, key) {
-            let left = here.left - 1;
-            let child = Context { key, span, left };
-            let w = visit(logs, numbers, kept, n, desk, costs, child, next);
-            children = and_child(children, w);
-        } else {
-            children = and_unseen(children, costs);
-        }
-        key += span;
-        a += 1;
-    }
-    split_here(kept, at, own, children)
+// What stands at a context: a shared leaf, two separate trees, or a split of both.
+#[derive(Clone, Copy, Debug, PartialEq, Eq)]
+pub enum Choice {
+    Shared,
+    Separate,
+    Split,
 }
 
-// The context of the record at a place is a leaf with these losses: its decision is kept there, and the walk goes on behind it.
+// The decision at a context: what stands there, and which own trees split.
+#[derive(Clone, Copy, Debug, PartialEq, Eq)]
+pub struct Mark {
+    pub joint: Choice,
+    pub first: bool,
+    pub second: bool,
+}
+
+// 0, 1 or 2.
+impl From<Choice> for u8 {
+    ghost from_gives = { λ choice result. result ≡ number_of_choice choice };
+
+    fn from(choice: Choice) -> u8 {
+        match choice {
+            Choice::Shared => 0,
+            Choice::Separate => 1,
+            Choice::Split => 2,
+        }
+    }
+}
+
+// The number that is kept beside a record for a decision ..
+impl From<Mark> for u8 {
+    ghost from_gives = { λ mark result. result ≡ mark_number mark };
+
+    fn from(mark: Mark) -> u8 {
+        u8::from(mark.joint) + 3 * u8::from(mark.first) + 6 * u8::from(mark.second)
+    }
+}
+
+// .. and read back.
+impl From<u8> for Mark {
+    ghost from_gives = { λ number result. result ≡ mark_in number };
+
+    fn from(number: u8) -> Mark {
+        let first = number / 3 % 2 == 1;
+        let second = number / 6 == 1;
+        let joint = choice_in(number);
+        Mark {
+            joint,
+            first,
+            second,
+        }
+    }
+}
+
+// Of a decision's number. No `From`, since it reads a part of that number alone.
+fn choice_in(number: u8) -> Choice
+    ensures { result ≡ choice_in number }
+{
+    match number % 3 {
+        0 => Choice::Shared,
+        1 => Choice::Separate,
+        _ => Choice::Split,
+    }
+}
+
+// What stays the same all through a walk: the logarithms that are lent, the records in use, the desk, and what a context of each kind costs.
+#[derive(Clone, Copy)]
+struct Walk<'a> {
+    logs: LentLogs<'a>,
+    held: Held<'a>,
+    desk: Desk,
+    costs: ByKind,
+}
+
+impl Walk<'_> {
+    // The trees at a held context, whose place the walk has come to. A child that is not held is answered without a call.
+    // The decision at each record of the context's block is kept beside it.
+    fn visit(&self, kept: &mut [u8], here: Context, at: usize) -> Weighed
+        requires { CanVisit self.now.desk self.now.costs self.now.held.n self.now.held.numbers.now kept.old here at }
+        ensures { Visited self.now.desk self.now.held.n self.now.held.numbers.now (context_of here.key) here.left at kept.old kept.new result }
+    {
+        let own = self.losses_at(at);
+        if here.left == 0 {
+            return leaf_here(kept, at, own);
+        }
+        let span = here.span / 8;
+        let mut key = here.key + 1;
+        let mut children = none_yet(at + 1);
+        for _ in 0..self.desk.symbols {
+            let next = children.next;
+            if self.held.stands(next, key) {
+                let left = here.left - 1;
+                let child = Context { key, span, left };
+                children = and_child(children, self.visit(kept, child, next));
+            } else {
+                children = and_unseen(children, self.costs);
+            }
+            key += span;
+        }
+        split_here(kept, at, own, children)
+    }
+
+    // The losses of the context of the record at a place.
+    fn losses_at(&self, at: usize) -> ByKind
+        requires { Countable self.now.held.numbers.now at self.now.costs }
+        ensures { LossesOf (count_table (record_at at self.now.held.numbers.now)) self.now.costs result }
+    {
+        estimate::losses_of(
+            self.logs,
+            records::counts_at(self.held.numbers, at),
+            self.costs,
+        )
+    }
+}
+
+// The context of the record at a place is a leaf with these losses: its decision is kept there, and the walk goes on behind it. That losses are `Small` stays a
+// clause, here and below: no plainer as a type's, since a `ByKind` is as often a sum of them, a cost or a number of rows.
 fn leaf_here(kept: &mut [u8], at: usize, own: ByKind) -> Weighed
     requires { (at < length kept.old) × Small own }
     ensures { LeafHere own at kept.old kept.new result }
@@ -137,14 +222,6 @@ fn split_here(kept: &mut [u8], at: usize, own: ByKind, children: Weighed) -> Wei
     as_split(own, children)
 }
 
-// The losses of the context of the record at a place.
-fn losses_at(logs: &[u32], numbers: &[u32], at: usize, costs: ByKind) -> ByKind
-    requires { AreLogs logs.now × Countable numbers.now at costs }
-    ensures { LossesOf (count_table (record_at at numbers.now)) costs result }
-{
-    estimate::losses_of(logs, records::counts_at(numbers, at), costs)
-}
-
 // The context is a leaf with these losses.
 fn as_leaf(own: ByKind, next: usize) -> Weighed
     requires { Small own }
@@ -152,14 +229,13 @@ fn as_leaf(own: ByKind, next: usize) -> Weighed
 {
     let apart = own.first + own.second;
     let rows = ByKind {
-        shared: leaf_rows(own.shared, apart),
+        shared: of_less(own.shared, apart, 1, 2),
         first: 1,
         second: 1,
     };
     let least = ByKind {
-        shared: smaller(own.shared, apart),
-        first: own.first,
-        second: own.second,
+        shared: own.shared.min(apart),
+        ..own
     };
     Weighed { least, rows, next }
 }
@@ -171,24 +247,19 @@ fn as_split(own: ByKind, children: Weighed) -> Weighed
 {
     let below = children.least;
     let held = children.rows;
-    let first = smaller(own.first, below.first);
-    let second = smaller(own.second, below.second);
-    let first_rows = own_rows(own.first, below.first, held.first);
-    let second_rows = own_rows(own.second, below.second, held.second);
+    let first = own.first.min(below.first);
+    let second = own.second.min(below.second);
+    let first_rows = of_less(own.first, below.first, 1, held.first);
+    let second_rows = of_less(own.second, below.second, 1, held.second);
     let apart = first + second;
+    let apart_rows = of_less(apart, below.shared, first_rows + second_rows, held.shared);
     let rows = ByKind {
-        shared: joint_rows(
-            own.shared,
-            apart,
-            below.shared,
-            first_rows + second_rows,
-            held.shared,
-        ),
+        shared: of_less(own.shared, apart.min(below.shared), 1, apart_rows),
         first: first_rows,
         second: second_rows,
     };
     let least = ByKind {
-        shared: smaller(own.shared, smaller(apart, below.shared)),
+        shared: own.shared.min(apart.min(below.shared)),
         first,
         second,
     };
@@ -221,8 +292,8 @@ fn and_child(children: Weighed, w: Weighed) -> Weighed
     ensures { ChildOf children w result }
 {
     Weighed {
-        least: plus(children.least, w.least),
-        rows: plus(children.rows, w.rows),
+        least: children.least + w.least,
+        rows: children.rows + w.rows,
         next: w.next,
     }
 }
@@ -235,79 +306,48 @@ fn and_unseen(children: Weighed, costs: ByKind) -> Weighed
     and_child(children, as_leaf(costs, children.next))
 }
 
-fn plus(x: ByKind, y: ByKind) -> ByKind
-    requires { SumFits x y }
-    ensures { SumOf x y result }
+// What goes with the less of two losses; of two that are the same, with the first.
+fn of_less(x: u64, y: u64, of_x: u64, of_y: u64) -> u64
+    ensures { (result ≡ cond (leb x y) of_x of_y) × (result ≤ of_x + of_y) }
 {
-    ByKind {
-        shared: x.shared + y.shared,
-        first: x.first + y.first,
-        second: x.second + y.second,
-    }
+    if x <= y { of_x } else { of_y }
 }
 
-// The members of a shared leaf, or of two separate leaves.
-fn leaf_rows(leaf: u64, apart: u64) -> u64
-    ensures { result ≡ cond (leb leaf apart) 1 2 }
-{
-    if leaf <= apart { 1 } else { 2 }
-}
-
-// The members of an own tree: itself, or those of its children.
-fn own_rows(leaf: u64, split: u64, below: u64) -> u64
-    ensures { (result ≡ cond (leb leaf split) 1 below) × (result ≤ 1 + below) }
-{
-    if leaf <= split { 1 } else { below }
-}
-
-// The members of both trees: of a shared leaf, of two separate trees, or of a split of both.
-fn joint_rows(leaf: u64, apart: u64, split: u64, both: u64, below: u64) -> u64
-    ensures { result ≡ cond (leb leaf (min apart split)) 1 (cond (leb apart split) both below) }
-{
-    let other = smaller(apart, split);
-    if leaf <= other {
-        return 1;
-    }
-    if apart <= split { both } else { below }
-}
-
-// The decision at a leaf with these losses.
+// The decision at a leaf with these losses, as a number (what may not change, as at `weigh`): no own tree splits there.
 pub fn leaf_mark(own: ByKind) -> u8
     requires { Small own }
     ensures { result ≡ leaf_mark own }
 {
-    more(own.shared, own.first + own.second)
+    if own.shared <= own.first + own.second {
+        u8::from(Choice::Shared)
+    } else {
+        u8::from(Choice::Separate)
+    }
 }
 
-// The decision at a context over children that lose this together.
+// The decision at a context over children that lose this together, as a number.
 fn split_mark(own: ByKind, below: ByKind) -> u8
     requires { Small own }
     ensures { result ≡ split_mark own below }
 {
-    let apart = smaller(own.first, below.first) + smaller(own.second, below.second);
-    choice_of(own.shared, apart, below.shared)
-        + 3 * more(own.first, below.first)
-        + 6 * more(own.second, below.second)
+    let apart = own.first.min(below.first) + own.second.min(below.second);
+    u8::from(Mark {
+        joint: choice_of(own.shared, apart, below.shared),
+        first: own.first > below.first,
+        second: own.second > below.second,
+    })
 }
 
 // Of a shared leaf, two separate trees and a split of both, the first that loses least.
-fn choice_of(leaf: u64, apart: u64, split: u64) -> u8
-    ensures { (result ≡ choice leaf apart split) × (result ≤ 2) }
+fn choice_of(leaf: u64, apart: u64, split: u64) -> Choice
+    ensures { number_of_choice result ≡ choice leaf apart split }
 {
-    if leaf <= smaller(apart, split) {
-        return 0;
+    if leaf <= apart.min(split) {
+        return Choice::Shared;
     }
-    if apart <= split { 1 } else { 2 }
-}
-
-fn more(x: u64, y: u64) -> u8
-    ensures { (result ≡ one (not (leb x y))) × (result ≤ 1) }
-{
-    if x <= y { 0 } else { 1 }
-}
-
-fn smaller(x: u64, y: u64) -> u64
-    ensures { (result ≡ min x y) × (result ≤ x) }
-{
-    if x <= y { x } else { y }
+    if apart <= split {
+        Choice::Separate
+    } else {
+        Choice::Split
+    }
 }

@@ -3,7 +3,6 @@ use Prim.Native.Nat.{ℕ}
 use mathlib.Core.Path.{◌≡◌, refl}
 use mathlib.Core.List.{List, [], ◌∷◌, ◌++◌}
 use lib.ListN.{length, replicate}
-use Rattle.numbers.specs.Every.{all}
 use Rattle.replay.specs.Table.{Outcome, refused, answered, verdict_of}
 use Rattle.sitting_file.specs.Verdict.{shortest}
 use Rattle.writing.specs.Writing.{file_of, good_values, writing_lines}
@@ -37,22 +36,22 @@ abbrev answer_to : ℕ → ℕ → List ℕ → List ℕ → ℕ → Outcome ℕ
 answer_to A D xs ys room = verdict_of (writing_lines A D xs ys room) (length (file_of A D xs ys))
 
 pub just_enough : answer_to 2 1 learner reference 20 ≡ answered 20
-unfolding verdict_of good_values all shortest
+unfolding verdict_of good_values shortest
 just_enough = refl
 
 pub one_byte_short : answer_to 2 1 learner reference 19 ≡ refused 19
-unfolding verdict_of good_values all shortest
+unfolding verdict_of good_values shortest
 one_byte_short = refl
 
 -- "19, after 15": no byte is lent, and the learner's 1 is not below 1; a depth of 7; a symbol 2 of the second
 pub bad_alphabet : answer_to 1 1 learner reference 0 ≡ refused 15
-unfolding verdict_of good_values all shortest
+unfolding verdict_of good_values shortest
 bad_alphabet = refl
 
 pub bad_depth : answer_to 2 7 learner reference 0 ≡ refused 15
-unfolding verdict_of good_values all shortest
+unfolding verdict_of good_values shortest
 bad_depth = refl
 
 pub bad_symbol : answer_to 2 1 learner (2 ∷ []) 0 ≡ refused 15
-unfolding verdict_of good_values all shortest
+unfolding verdict_of good_values shortest
 bad_symbol = refl

@@ -4,12 +4,12 @@ use native.Mathlib.Omega.{arith}
 use mathlib.Core.Path.{◌≡◌, refl, ap, ◌∙◌}
 use mathlib.Core.List.{List, [], ◌∷◌, ◌++◌}
 use lib.Dec.{T, leb, ltb, leb→le, le→leb, ltb→lt, lt→ltb}
-use lib.ListN.{length, get_or, length-append}
+use lib.ListN.{length, length-append}
 use Rattle.numbers.specs.Limits.{fewest_symbols, most_symbols, deepest, longest}
 use Rattle.numbers.proofs.Tests.{both, left, right}
-use Rattle.numbers.proofs.Every.{all_at, all_of}
 use Rattle.sitting_file.specs.Samples.{InLimits, Below, last_symbols}
 use Rattle.sitting_file.specs.Verdict.{written, with_header, OfFormat}
+use Rattle.sitting_file.specs.declared.Shape.{Shape}
 use Rattle.sitting_file.proofs.Rewritten.{one_each, format_symbols}
 use Rattle.sitting_file.proofs.Written.{written_append}
 use Rattle.writing.specs.Writing.{shape_of, file_of, all_below, good_values}
@@ -20,10 +20,18 @@ below_append A (x ∷ xs) ys p q zero l = p 0 (omega arith)
 below_append A (x ∷ xs) ys p q (suc i) l = below_append A xs ys (λ j h. p (suc j) (omega arith)) q i (omega arith)
 
 all_below_lem : (A : ℕ) (xs : List ℕ) → T (all_below A xs) → Below A xs
-all_below_lem A xs t i l = ltb→lt (get_or xs i 0) A (all_at (λ a. ltb a A) xs i 0 t l)
+all_below_lem A [] t i l = absurd (omega arith)
+all_below_lem A (x ∷ xs) t zero l = ltb→lt x A (left (ltb x A) _ t)
+all_below_lem A (x ∷ xs) t (suc i) l = all_below_lem A xs (right (ltb x A) _ t) i (omega arith)
 
 below_all : (A : ℕ) (xs : List ℕ) → Below A xs → T (all_below A xs)
-below_all A xs b = all_of (λ a. ltb a A) xs 0 (λ i l. lt→ltb (get_or xs i 0) A (b i l))
+below_all A [] b = tt
+below_all A (x ∷ xs) b = both (ltb x A) _ (lt→ltb x A (b 0 (omega arith))) (below_all A xs (λ i l. b (suc i) (omega arith)))
+
+-- symbols below A are put behind a header as they are, a byte each
+pub symbols_follow : (q : Shape) (xs ys : List ℕ) → InLimits q → Below q.alphabet xs → Below q.alphabet ys → written (with_header q (xs ++ ys)) ≡ written (with_header q []) ++ (xs ++ ys)
+symbols_follow q xs ys l b d =
+    written_append (with_header q []) (xs ++ ys) ∙ ap (λ (ss : List ℕ). written (with_header q []) ++ ss) (one_each q.alphabet (xs ++ ys) l.alphabet_high (below_append q.alphabet xs ys b d))
 
 -- A, D, n and m within their limits, and every symbol below A
 pub record Good (A D : ℕ) (xs ys : List ℕ) : Type 0 where
@@ -65,9 +73,7 @@ module _ (A D : ℕ) (xs ys : List ℕ) where
 
   -- the file: the header's four numbers, then the samples as they are
   pub file_parts : Good A D xs ys → file_of A D xs ys ≡ written (with_header (shape_of A D xs ys) []) ++ (xs ++ ys)
-  file_parts h =
-      written_append (with_header (shape_of A D xs ys) []) (xs ++ ys)
-      ∙ ap (λ (l : List ℕ). written (with_header (shape_of A D xs ys) []) ++ l) (one_each A (xs ++ ys) h.limits.alphabet_high (below_append A xs ys h.first_below h.second_below))
+  file_parts h = symbols_follow (shape_of A D xs ys) xs ys h.limits h.first_below h.second_below
 
   -- such a file is of document 01's format
   pub of_format : Good A D xs ys → OfFormat (file_of A D xs ys) (shape_of A D xs ys)

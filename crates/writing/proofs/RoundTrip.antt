@@ -1,5 +1,6 @@
 -- What is written reads back as the same sitting, and an accepted file written again has the same bytes. Assumes nothing.
 use Prim.Native.Nat.{ℕ}
+use Rattle.std.specs.Prelude.{Ok}
 use native.Mathlib.Omega.{arith}
 use mathlib.Core.Path.{◌≡◌, refl, sym, ap, subst, ◌∙◌}
 use mathlib.Core.List.{List, [], ◌++◌}
@@ -12,7 +13,6 @@ use Rattle.sitting_file.specs.Format.{read_of}
 use Rattle.sitting_file.specs.Samples.{InLimits, first_of, second_of}
 use Rattle.sitting_file.specs.Verdict.{Bytes, written, with_header}
 use Rattle.sitting_file.specs.declared.Shape.{Shape}
-use Rattle.sitting_file.specs.declared.Reading.TheVariants.{Accepted}
 use Rattle.sitting_file.proofs.AnswerOnly.{answer_only}
 use Rattle.sitting_file.proofs.AcceptedFile.{accepted_holds}
 use Rattle.sitting_file.proofs.Rewritten.{accepted_bytes}
@@ -26,7 +26,7 @@ use Rattle.writing.proofs.Answers.{good_answers, bad_refused, accepted}
 module _ (A D : ℕ) (xs ys : List ℕ) (h : Good A D xs ys) where
   pub file_reads : ReadsAs (file_of A D xs ys) A D xs ys
   file_reads = record {
-    accepted = sym (answer_only (file_of A D xs ys) (Accepted (shape_of A D xs ys)) (of_format A D xs ys h));
+    accepted = sym (answer_only (file_of A D xs ys) (Ok (shape_of A D xs ys)) (of_format A D xs ys h));
     its_first = ap (take (length xs)) (sym (file_symbols A D xs ys h)) ∙ take-append_seam xs ys;
     its_second = ap (drop (length xs)) (sym (file_symbols A D xs ys h)) ∙ drop-append_seam xs ys;
   }
@@ -39,7 +39,7 @@ reads_back A D xs ys before after n w =
 
 -- ---- an accepted file
 
-module _ (file : List ℕ) (shape : Shape) (bytes : Bytes file) (e : read_of file ≡ Accepted shape) where
+module _ (file : List ℕ) (shape : Shape) (bytes : Bytes file) (e : read_of file ≡ Ok shape) where
   abbrev xs : List ℕ
   xs = first_of file shape
 

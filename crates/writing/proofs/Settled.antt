@@ -1,15 +1,14 @@
 -- What the promise of a writing settles: the answer, also that of the code, and every byte. Assumes nothing.
 use Prim.Native.Nat.{ℕ}
+use Rattle.std.specs.Prelude.{Ok, Err}
 use native.Mathlib.Omega.{arith}
 use mathlib.Core.Path.{◌≡◌, refl, sym, ap, ◌∙◌}
 use mathlib.Core.List.{List}
 use Rattle.replay.specs.Table.{Outcome, refused, answered}
 use Rattle.replay.proofs.Tables.{no_refusal, number_same, answer_same}
-use Rattle.writing.specs.Writing.{refusal_number, writing_outcome, WritesFile}
+use Rattle.writing.specs.Writing.{Writing, refusal_number, writing_outcome, WritesFile}
 use Rattle.writing.specs.declared.Refusal.{Refusal}
 use Rattle.writing.specs.declared.Refusal.TheVariants.{BadValues, BufferShort}
-use Rattle.writing.specs.declared.Writing.{Writing}
-use Rattle.writing.specs.declared.Writing.TheVariants.{Length, Refused}
 
 module _ (A D : ℕ) (xs ys before : List ℕ) where
   -- THEOREM. Two results that one promise allows are equal
@@ -32,7 +31,7 @@ one_refusal BufferShort BadValues e = absurd (omega (arith, e))
 
 -- THEOREM. No two answers of the code say the same, so the promise settles the code's answer too
 pub one_writing : (x y : Writing) → writing_outcome x ≡ writing_outcome y → x ≡ y
-one_writing (Length n) (Length m) e = ap Length (answer_same e)
-one_writing (Refused v) (Refused w) e = ap Refused (one_refusal v w (number_same e))
-one_writing (Length n) (Refused w) e = no_refusal refl e
-one_writing (Refused v) (Length m) e = no_refusal e refl
+one_writing (Ok n) (Ok m) e = ap Ok (answer_same e)
+one_writing (Err v) (Err w) e = ap Err (one_refusal v w (number_same e))
+one_writing (Ok n) (Err w) e = no_refusal refl e
+one_writing (Err v) (Ok m) e = no_refusal e refl

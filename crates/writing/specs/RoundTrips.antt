@@ -1,16 +1,15 @@
 -- Writing and reading undo each other, and bytes that are always enough (document 02, E1). Proved in proofs/RoundTrip. Assumes nothing.
-use Rattle.std.specs.Prelude.{ℕ, ◌+◌, ◌≤◌, ◌≡◌, List, ◌++◌, length, take, drop}
+use Rattle.std.specs.Prelude.{ℕ, ◌+◌, ◌≤◌, ◌≡◌, List, ◌++◌, length, take, drop, Ok}
 use Rattle.replay.specs.Table.{Outcome, refused, answered}
 use Rattle.sitting_file.specs.Format.{read_of}
 use Rattle.sitting_file.specs.Samples.{first_of, second_of, longest_header}
 use Rattle.sitting_file.specs.Verdict.{Bytes}
 use Rattle.sitting_file.specs.declared.Shape.{Shape}
-use Rattle.sitting_file.specs.declared.Reading.TheVariants.{Accepted}
 use Rattle.writing.specs.Writing.{shape_of, WritesFile}
 
 -- the file is accepted, with this A and D and these two samples
 pub record ReadsAs (file : List ℕ) (A D : ℕ) (xs ys : List ℕ) : Type 0 where
-  pub accepted : read_of file ≡ Accepted (shape_of A D xs ys)
+  pub accepted : read_of file ≡ Ok (shape_of A D xs ys)
   pub its_first : first_of file (shape_of A D xs ys) ≡ xs
   pub its_second : second_of file (shape_of A D xs ys) ≡ ys
 
@@ -25,7 +24,7 @@ pub record SameAgain (file before : List ℕ) (o : Outcome ℕ) (after : List �
 
 -- "any accepted file written again has the same bytes", wherever as many bytes are lent
 abbrev pub WritesBack : Type 0
-WritesBack = (file : List ℕ) (shape : Shape) → Bytes file → read_of file ≡ Accepted shape
+WritesBack = (file : List ℕ) (shape : Shape) → Bytes file → read_of file ≡ Ok shape
     → (before after : List ℕ) (o : Outcome ℕ) → length file ≤ length before
     → WritesFile shape.alphabet shape.depth (first_of file shape) (second_of file shape) before o after → SameAgain file before o after
 

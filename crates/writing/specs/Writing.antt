@@ -1,14 +1,12 @@
 -- A sitting's file, and what its writing answers and leaves (document 02, E1). Assumes nothing.
-use Rattle.std.specs.Prelude.{ℕ, ◌≡◌, Bool, not, ◌&&◌, List, [], ◌∷◌, ◌++◌, leb, ltb, length, drop}
+use Rattle.std.specs.Prelude.{ℕ, ◌≡◌, Bool, not, ◌&&◌, List, [], ◌∷◌, ◌++◌, leb, ltb, length, drop, Result, Ok, Err}
+use Rattle.std.specs.List.{list_all}
 use Rattle.numbers.specs.Limits.{fewest_symbols, most_symbols, deepest, longest}
-use Rattle.numbers.specs.Every.{all}
 use Rattle.replay.specs.Table.{Line, ◌when◌, Outcome, refused, answered, verdict_of}
 use Rattle.sitting_file.specs.Verdict.{written, with_header}
 use Rattle.sitting_file.specs.declared.Shape.{Shape}
 use Rattle.writing.specs.declared.Refusal.{Refusal}
 use Rattle.writing.specs.declared.Refusal.TheVariants.{BadValues, BufferShort}
-use Rattle.writing.specs.declared.Writing.{Writing}
-use Rattle.writing.specs.declared.Writing.TheVariants.{Length, Refused}
 
 -- A and D, and the lengths of two samples
 abbrev pub shape_of : ℕ → ℕ → List ℕ → List ℕ → Shape
@@ -20,7 +18,7 @@ file_of A D xs ys = written (with_header (shape_of A D xs ys) (xs ++ ys))
 
 -- each symbol of a sample is below A
 abbrev pub all_below : ℕ → List ℕ → Bool
-all_below A xs = all (λ a. ltb a A) xs
+all_below A xs = list_all (λ a. ltb a A) xs
 
 -- A, D, the lengths and the symbols are within document 01's limits
 unfoldable pub good_values : ℕ → ℕ → List ℕ → List ℕ → Bool
@@ -36,6 +34,10 @@ good_values A D xs ys =
 abbrev pub writing_lines : ℕ → ℕ → List ℕ → List ℕ → ℕ → List Line
 writing_lines A D xs ys room = 15 when not (good_values A D xs ys) ∷ 19 when ltb room (length (file_of A D xs ys)) ∷ []
 
+-- the answer to a writing: how many bytes the file has, or why it is not written
+abbrev pub Writing : Type 0
+Writing = Result ℕ Refusal
+
 -- document 02's number of each refusal
 abbrev pub refusal_number : Refusal → ℕ
 refusal_number BadValues = 15
@@ -43,8 +45,8 @@ refusal_number BufferShort = 19
 
 -- what an answer says: the file's length, or the refusal's number
 abbrev pub writing_outcome : Writing → Outcome ℕ
-writing_outcome (Length n) = answered n
-writing_outcome (Refused why) = refused (refusal_number why)
+writing_outcome (Ok n) = answered n
+writing_outcome (Err why) = refused (refusal_number why)
 
 -- a writing into the bytes `before`, which answers the file's length or is refused, and leaves `after`
 pub record WritesFile (A D : ℕ) (xs ys before : List ℕ) (o : Outcome ℕ) (after : List ℕ) : Type 0 where

@@ -1,7 +1,6 @@
 -- `answering::feed_file` meets its contract: the two parts lent are the file's samples. Assumes nothing.
 use Prim.Native.Nat.{◌+◌, ◌≤◌}
 use native.Mathlib.Omega.{arith}
-use borrow.Author.Rules.{rules}
 use lib.ListN.{length}
 use Rattle.sitting_file.proofs.AcceptedFile.{accepted_holds}
 use Rattle.judgement.proofs.Seating.{file_fed}

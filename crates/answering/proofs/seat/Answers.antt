@@ -1,5 +1,4 @@
 -- `answering::seat` meets its contract: the store is made, and the desk opens. Assumes nothing.
-use borrow.Author.Rules.{rules}
 use Rattle.judgement.proofs.Seating.{seat_means}
 use Rattle.answering.proofs.seat.Goals as goal
 

@@ -1,104 +1,66 @@
 -- `charting::chart` meets its contract: each return is a way through the table. Assumes nothing.
-use mathlib.Core.Path.{◌≡◌, sym, ◌∙◌}
-use mathlib.Core.Bool.{true}
-use Prim.Native.Nat.{◌≤◌}
-use native.Mathlib.Omega.{arith}
-use borrow.Author.Rules.{rules}
-use borrow.Author.Tests.{not-true, not-false}
-use lib.ListN.{length}
-use Rattle.numbers.proofs.Orders.{eq→eqb}
-use Rattle.store.specs.Layout.{header_size, field, symbols_at}
-use Rattle.store.specs.Sound.{soundb}
-use Rattle.store.specs.Plain.{Open}
-use Rattle.store.proofs.Passing.{passed}
+use Rattle.std.proofs.Common.{rules, arith, ◌≡◌, ◌≤◌, sym, ◌∙◌}
+use Rattle.std.proofs.lemmas.Result.{err_from_is_err_and}
+use Rattle.store.specs.Layout.{symbols_at, depth_at}
+use Rattle.store.proofs.Passing.{header_long}
 use Rattle.store.proofs.Standing.{sound_stands}
-use Rattle.rules.specs.Rules.{charting}
-use Rattle.calls.proofs.Keeping.{asks_unsound}
+use Rattle.calls.specs.declared.Refusal.TheVariants.{NotOfSitting}
 use Rattle.charting.specs.Naming.{named}
-use Rattle.charting.proofs.Verdicts.{asks_no_desk, asks_shut, asks_symbol, asks_length, Asked, asks_code, key_readable, asks_chart}
+use Rattle.charting.proofs.Verdicts.{asks_symbol, asks_length, Asked, asks_code, key_readable, asks_chart}
 use Rattle.charting.proofs.chart.Goals as goal
-use Rattle.charting.proofs.chart.Goals.{After-key_of, Else-field_at-length, Else-field_at-ne1, Else-not-sound}
+use Rattle.charting.proofs.chart.Goals.{After-key_of, Else-depth-length, then-symbols-symbol-via-then-symbols-symbol, then-symbols-symbol-via-else-symbols-symbol+then-depth-length}
 
--- past the first test the store is sound
-sound-here : (c : Else-not-sound) → soundb c.args.store.now ≡ true
-sound-here c = sym c.sound.ensures ∙ c.if-not-sound.false
-
-header-here : (c : Else-not-sound) → header_size ≤ length c.args.store.now
-header-here c = omega (arith, (passed c.args.store.now (sound-here c)).framed.long)
-
--- past the third the desk is open
-open-here : (c : Else-field_at-ne1) → let x = c.args in Open x.store.now x.desk
-open-here c =
-    let x = c.args in
-    record { desk = omega arith; opened = eq→eqb (field x.store.now x.desk 0) 1 (sym c.field_at.ensures ∙ c.if-field_at-ne1.false) }
-
--- past the fifth only the code is still to be read
-asked_here : (c : Else-field_at-length) → let x = c.args in Asked x.store.now x.desk x.length x.symbol
-asked_here c = record {
-  sound = sym c.sound.ensures ∙ c.if-not-sound.false;
-  at_open = record { desk = omega arith; opened = eq→eqb (field c.args.store.now c.args.desk 0) 1 (sym c.field_at.ensures ∙ c.if-field_at-ne1.false) };
-  symbol = rw c.field_at-symbols.ensures at c.if-symbols-symbol.false;
-  short = rw c.field_at-2.ensures at c.if-field_at-length.false;
+-- past the tests only the code is still to be read
+asked_here : (c : Else-depth-length) → let x = c.args in x.length ≤ depth_at x.store.now x.desk → Asked x.store.now x.desk x.length x.symbol
+asked_here c within = record {
+  sound = c.in_ok-open_desk.ensures.sound;
+  at_open = c.in_ok-open_desk.ensures.at_open;
+  symbol = rw c.symbols-symbols.ensures at c.if-symbols-symbol.false;
+  short = within;
 }
 
 -- what was named, over the desk's alphabet
-named_here : (c : After-key_of)
-    → let x = c.args in named (symbols_at x.store.now x.desk) x.desk x.length x.code ≡ c.key_of.result
-named_here c = rw c.field_at-symbols.ensures at (sym c.key_of.ensures)
+named_here : (c : After-key_of) → let x = c.args in named (symbols_at x.store.now x.desk) x.desk x.length x.code ≡ c.key_of.result
+named_here c = rw c.symbols-symbols.ensures at (sym c.key_of.ensures)
 
-pub returns-then-not-sound : goal.returns-then-not-sound
-returns-then-not-sound c = asks_unsound _ _ (sym c.sound.ensures ∙ c.if-not-sound.true)
-
-pub returns-then-at-ge-DESKS : goal.returns-then-at-ge-DESKS
-returns-then-at-ge-DESKS c =
-    let x = c.args in
-    asks_no_desk x.store.now (sound-here (goal.at.returns-then-at-ge-DESKS c).Else-not-sound) x.desk (charting x.length x.code x.symbol) c.if-at-ge-DESKS.true
-
-pub field_at-requires : goal.field_at-requires
-field_at-requires c = (header-here (goal.at.field_at-requires c).Else-not-sound, c.if-at-ge-DESKS.false, omega arith)
-
-pub returns-then-field_at-ne1 : goal.returns-then-field_at-ne1
-returns-then-field_at-ne1 c =
-    let x = c.args in
-    asks_shut x.store.now (sound-here (goal.at.returns-then-field_at-ne1 c).Else-not-sound) x.desk (charting x.length x.code x.symbol) c.if-at-ge-DESKS.false
-    (λ e. c.if-field_at-ne1.true (c.field_at.ensures ∙ e))
-
-pub field_at-symbols-requires : goal.field_at-symbols-requires
-field_at-symbols-requires c = (header-here (goal.at.field_at-symbols-requires c).Else-not-sound, c.if-at-ge-DESKS.false, omega arith)
+pub invariant_of-numbers : goal.invariant_of-numbers
+invariant_of-numbers c =
+    let found = c.in_ok-open_desk.ensures in
+    record { there = (header_long c.args.store.now found.sound, found.at_open.desk) }
 
 pub returns-then-symbols-symbol : goal.returns-then-symbols-symbol
 returns-then-symbols-symbol c =
     let x = c.args in
-    asks_symbol x.store.now (sound-here (goal.at.returns-then-symbols-symbol c).Else-not-sound) x.desk (open-here (goal.at.returns-then-symbols-symbol c).Else-field_at-ne1) x.length x.code x.symbol
-    (rw c.field_at-symbols.ensures at c.if-symbols-symbol.true)
-
-pub field_at-requires-2 : goal.field_at-requires-2
-field_at-requires-2 c = (header-here (goal.at.field_at-requires-2 c).Else-not-sound, c.if-at-ge-DESKS.false, omega arith)
-
-pub returns-then-field_at-length : goal.returns-then-field_at-length
-returns-then-field_at-length c =
-    let x = c.args in
-    asks_length x.store.now (sound-here (goal.at.returns-then-field_at-length c).Else-not-sound) x.desk (open-here (goal.at.returns-then-field_at-length c).Else-field_at-ne1) x.length x.code x.symbol
-    (rw c.field_at-symbols.ensures at c.if-symbols-symbol.false) (rw c.field_at-2.ensures at c.if-field_at-length.true)
+    let found = c.in_ok-open_desk.ensures in
+    elim c.then-symbols-symbol.branch [
+      | then-symbols-symbol-via-then-symbols-symbol w ↦
+          asks_symbol x.store.now found.sound x.desk found.at_open x.length x.code x.symbol (rw c.symbols-symbols.ensures at w.if-symbols-symbol.true)
+      | then-symbols-symbol-via-else-symbols-symbol+then-depth-length w ↦
+          asks_length x.store.now found.sound x.desk found.at_open x.length x.code x.symbol
+          (rw c.symbols-symbols.ensures at w.if-symbols-symbol.false) (rw w.depth.ensures at w.if-depth-length.true)
+    ]
 
 pub key_of-requires : goal.key_of-requires
 key_of-requires c =
+    let g = asked_here (goal.at.key_of-requires c).Else-depth-length (rw c.depth.ensures at c.if-depth-length.false) in
+    (g.at_open.desk, omega (arith, g.short, (sound_stands c.args.store.now g.sound).depth c.args.desk g.at_open))
+
+pub returns-in_err-key : goal.returns-in_err-key
+returns-in_err-key c =
     let x = c.args in
-    let g = asked_here (goal.at.key_of-requires c).Else-field_at-length in
-    (g.at_open.desk, omega (arith, g.short, (sound_stands x.store.now g.sound).depth x.desk g.at_open))
+    let p = err_from_is_err_and c.from_residual-in_err-key.result c.from_residual-in_err-key.ensures.1 in
+    let none = c.in_err-key.ensures.ok_part in
+    let why : c.in_err-key.field-0.0 ≡ NotOfSitting = let e = rw none at c.in_err-key.ensures.value in cc in
+    rw (p.1, p.2, why) (asks_code x.store.now x.desk x.length x.code x.symbol (asked_here (goal.at.returns-in_err-key c).Else-depth-length (rw c.depth.ensures at c.if-depth-length.false)) (named_here (goal.at.returns-in_err-key c).After-key_of ∙ none))
 
 pub chart_under-requires : goal.chart_under-requires
 chart_under-requires c =
     let x = c.args in
-    key_readable x.store.now x.desk x.length x.code x.symbol (asked_here (goal.at.chart_under-requires c).Else-field_at-length) c.in-Key.key (named_here (goal.at.chart_under-requires c).After-key_of ∙ c.in-Key.is)
+    key_readable x.store.now x.desk x.length x.code x.symbol (asked_here (goal.at.chart_under-requires c).Else-depth-length (rw c.depth.ensures at c.if-depth-length.false)) c.in_ok-key.key
+    (named_here (goal.at.chart_under-requires c).After-key_of ∙ c.in_ok-key.ensures.ok_part)
 
-pub returns-in-Key : goal.returns-in-Key
-returns-in-Key c =
+pub returns : goal.returns
+returns c =
     let x = c.args in
-    asks_chart x.store.now x.desk x.length x.code x.symbol (asked_here (goal.at.returns-in-Key c).Else-field_at-length) c.in-Key.key (named_here (goal.at.returns-in-Key c).After-key_of ∙ c.in-Key.is)
-    c.chart_under.result c.chart_under.ensures
-
-pub returns-in-NoContext : goal.returns-in-NoContext
-returns-in-NoContext c =
-    let x = c.args in
-    asks_code x.store.now x.desk x.length x.code x.symbol (asked_here (goal.at.returns-in-NoContext c).Else-field_at-length) (named_here (goal.at.returns-in-NoContext c).After-key_of ∙ c.in-NoContext.is)
+    asks_chart x.store.now x.desk x.length x.code x.symbol (asked_here (goal.at.returns c).Else-depth-length (rw c.depth.ensures at c.if-depth-length.false)) c.in_ok-key.key
+    (named_here (goal.at.returns c).After-key_of ∙ c.in_ok-key.ensures.ok_part) c.chart_under.result c.chart_under.ensures

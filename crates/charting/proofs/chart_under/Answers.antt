@@ -4,7 +4,6 @@ use mathlib.Core.List.{List}
 use lib.ListN.{length, take, drop}
 use Prim.Native.Nat.{ℕ, ◌-◌}
 use native.Mathlib.Omega.{arith}
-use borrow.Author.Rules.{rules}
 use Rattle.records.specs.Records.{lookup, records}
 use Rattle.records.specs.Held.{count_table}
 use Rattle.records.proofs.Lent.{tail_lent}
@@ -12,11 +11,11 @@ use Rattle.chart.specs.Answer.{chart_in}
 use Rattle.store.specs.Layout.{header_size, used, records_in}
 use Rattle.charting.proofs.chart_under.Goals as goal
 
-pub overflow_cast-many : goal.overflow_cast-many
-overflow_cast-many c = omega (arith, c.type_inv.store 1)
+pub overflow_cast-n : goal.overflow_cast-n
+overflow_cast-n c = omega (arith, c.type_inv.store 1)
 
-pub table_of-requires : goal.table_of-requires
-table_of-requires c = rw (tail_lent header_size c.args.store.now) c.requires.standing
+pub invariant_of-held : goal.invariant_of-held
+invariant_of-held c = rw (tail_lent header_size c.args.store.now) (record { standing = c.requires.standing })
 
 -- the part that was lent is the store's from the header on
 counts_are : (s : List ℕ) (k : ℕ) (t : List (List ℕ)) → t ≡ count_table (lookup k (records (used s) (take (length s - header_size) (drop header_size s)))) → t ≡ count_table (lookup k (records_in s))

@@ -1,14 +1,10 @@
--- `charting::eights_of` meets its contract: the shift, worked out at each place. Assumes nothing.
-use mathlib.Core.Path.{◌≡◌, refl}
-use Prim.Native.Nat.{ℕ, ◌-◌, ◌*◌, ◌%◌, ◌^◌, ◌<◌}
-use native.Mathlib.Omega.{arith}
-use borrow.Author.Rules.{rules}
-use Rattle.contexts.proofs.Digits.{each_length}
-use Rattle.numbers.specs.Limits.{deepest}
+-- `charting::eights_of` meets its contract: a symbol with so many more recent ones is the oldest of a context that is one longer. Assumes nothing.
+use Rattle.std.proofs.Common.{rules, arith, ◌≡◌, ℕ, ◌-◌, ◌+◌, ◌^◌, ap, ◌∙◌}
+use Rattle.contexts.specs.Keys.{eights}
 use Rattle.charting.proofs.eights_of.Goals as goal
 
-shifted : (n : ℕ) → n < 8 → 1 * 2 ^ (18 - 3 * n) % 4294967296 ≡ 8 ^ (deepest - n)
-shifted = each_length (λ n. 1 * 2 ^ (18 - 3 * n) % 4294967296 ≡ 8 ^ (deepest - n)) refl refl refl refl refl refl refl refl
-
 pub returns : goal.returns
-returns c = shifted c.args.newer (omega arith)
+unfolding eights
+returns c =
+    let e : 7 - (c.args.newer + 1) ≡ 6 - c.args.newer = omega arith in
+    c.eights_of.ensures.power ∙ ap (λ (n : ℕ). 8 ^ n) e

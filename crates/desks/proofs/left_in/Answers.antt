@@ -13,8 +13,8 @@ bounds-store-0 c = omega (arith, header_long c.args.store.now c.requires)
 pub overflow_cast-result : goal.overflow_cast-result
 overflow_cast-result c = omega (arith, room_small c.args.store.now c.requires)
 
-pub reserved-requires : goal.reserved-requires
-reserved-requires c = header_long c.args.store.now c.requires
+pub invariant_of-reserved : goal.invariant_of-reserved
+invariant_of-reserved c = record { whole = header_long c.args.store.now c.requires }
 
 pub overflow_sub-result : goal.overflow_sub-result
 overflow_sub-result c =

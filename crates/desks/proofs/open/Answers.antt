@@ -1,15 +1,12 @@
 -- `desks::open` meets its contract: one law of Granting for each way through it. Assumes nothing.
 use mathlib.Core.Path.{◌≡◌, sym, ◌∙◌}
 use mathlib.Core.Bool.{true}
-use native.Mathlib.Omega.{arith}
-use lib.Dec.{eqb→eq}
 use borrow.Author.Tests.{not-true, not-false, le-ltb, lt-ltb}
 use borrow.Author.Rules.{rules}
 use Rattle.numbers.specs.Limits.{most_weight}
-use Rattle.numbers.proofs.Orders.{eq→eqb}
+use Rattle.numbers.proofs.Tests.{is_true, of_true, not_both}
 use Rattle.replay.specs.Machine.{at_desk, opening, weight_outside}
 use Rattle.replay.specs.Room.{naming}
-use Rattle.store.specs.Layout.{field}
 use Rattle.store.specs.Plain.{Open}
 use Rattle.store.specs.Sound.{soundb}
 use Rattle.store.specs.Meaning.{meaning}
@@ -18,18 +15,15 @@ use Rattle.calls.proofs.Keeping.{moves_unsound, moves_refused}
 use Rattle.changes.proofs.Granting.{no_desk, outside, heavy}
 use Rattle.changes.proofs.Vacant.{shut_there, open_there}
 use Rattle.desks.proofs.open.Goals as goal
-use Rattle.desks.proofs.open.Goals.{Else-field_at-eq1, Else-not-sound}
+use Rattle.desks.proofs.open.Goals.{Else-is_open, Else-not-sound}
 
 -- ---- what each test has told
 
 passed : (c : Else-not-sound) → soundb c.args.store.now ≡ true
 passed c = sym c.sound.ensures ∙ c.if-not-sound.false
 
-shut : (c : Else-field_at-eq1) → (let x = c.args in Open x.store.now x.desk → ⊥)
-shut c o =
-    let x = c.args in
-    let not-one : field x.store.now x.desk 0 ≡ 1 → ⊥ = omega arith in
-    not-one (eqb→eq (field x.store.now x.desk 0) 1 o.opened)
+shut : (c : Else-is_open) → (let x = c.args in Open x.store.now x.desk → ⊥)
+shut c o = not_both _ (is_true _ o.opened) (sym c.is_open.ensures ∙ c.if-is_open.false)
 
 -- ---- the needs
 
@@ -44,23 +38,21 @@ returns-then-desk-ge-DESKS c =
     let o = naming x.alphabet x.depth x.weight x.reservation in
     moves_refused x.store.now (at_desk x.desk (opening o)) 2 (passed (goal.at.returns-then-desk-ge-DESKS c).Else-not-sound) (no_desk (meaning x.store.now) x.desk o c.if-desk-ge-DESKS.true)
 
-pub field_at-requires : goal.field_at-requires
-field_at-requires c =
-    let x = c.args in
-    (header_long x.store.now (passed (goal.at.field_at-requires c).Else-not-sound), c.if-desk-ge-DESKS.false, omega arith)
+pub invariant_of-numbers : goal.invariant_of-numbers
+invariant_of-numbers c =
+    record { there = (header_long c.args.store.now (passed (goal.at.invariant_of-numbers c).Else-not-sound), c.if-desk-ge-DESKS.false) }
 
-pub returns-then-field_at-eq1 : goal.returns-then-field_at-eq1
-returns-then-field_at-eq1 c =
+pub returns-then-is_open : goal.returns-then-is_open
+returns-then-is_open c =
     let x = c.args in
     let o = naming x.alphabet x.depth x.weight x.reservation in
-    let is_one : field x.store.now x.desk 0 ≡ 1 = omega arith in
-    moves_refused x.store.now (at_desk x.desk (opening o)) 3 (passed (goal.at.returns-then-field_at-eq1 c).Else-not-sound) (open_there x.store.now x.desk o (record { desk = c.if-desk-ge-DESKS.false; opened = eq→eqb (field x.store.now x.desk 0) 1 is_one }))
+    moves_refused x.store.now (at_desk x.desk (opening o)) 3 (passed (goal.at.returns-then-is_open c).Else-not-sound) (open_there x.store.now x.desk o (record { desk = c.if-desk-ge-DESKS.false; opened = of_true _ (sym c.is_open.ensures ∙ c.if-is_open.true) }))
 
 pub returns-then-outside_limits : goal.returns-then-outside_limits
 returns-then-outside_limits c =
     let x = c.args in
     let o = naming x.alphabet x.depth x.weight x.reservation in
-    moves_refused x.store.now (at_desk x.desk (opening o)) 5 (passed (goal.at.returns-then-outside_limits c).Else-not-sound) (outside (meaning x.store.now) x.desk o c.if-desk-ge-DESKS.false (shut_there x.store.now x.desk (shut (goal.at.returns-then-outside_limits c).Else-field_at-eq1)) (sym (c.outside_limits.ensures x.weight x.reservation) ∙ c.if-outside_limits.true))
+    moves_refused x.store.now (at_desk x.desk (opening o)) 5 (passed (goal.at.returns-then-outside_limits c).Else-not-sound) (outside (meaning x.store.now) x.desk o c.if-desk-ge-DESKS.false (shut_there x.store.now x.desk (shut (goal.at.returns-then-outside_limits c).Else-is_open)) (sym c.outside_limits.ensures ∙ c.if-outside_limits.true))
 
 pub returns-then-weight-gt-MOST_WEIGHT : goal.returns-then-weight-gt-MOST_WEIGHT
 unfolding weight_outside
@@ -68,8 +60,8 @@ returns-then-weight-gt-MOST_WEIGHT c =
     let x = c.args in
     let o = naming x.alphabet x.depth x.weight x.reservation in
     moves_refused x.store.now (at_desk x.desk (opening o)) 20 (passed (goal.at.returns-then-weight-gt-MOST_WEIGHT c).Else-not-sound)
-    (heavy (meaning x.store.now) x.desk o c.if-desk-ge-DESKS.false (shut_there x.store.now x.desk (shut (goal.at.returns-then-weight-gt-MOST_WEIGHT c).Else-field_at-eq1))
-    (sym (c.outside_limits.ensures x.weight x.reservation) ∙ c.if-outside_limits.false) (lt-ltb most_weight x.weight c.if-weight-gt-MOST_WEIGHT.true))
+    (heavy (meaning x.store.now) x.desk o c.if-desk-ge-DESKS.false (shut_there x.store.now x.desk (shut (goal.at.returns-then-weight-gt-MOST_WEIGHT c).Else-is_open))
+    (sym c.outside_limits.ensures ∙ c.if-outside_limits.false) (lt-ltb most_weight x.weight c.if-weight-gt-MOST_WEIGHT.true))
 
 pub open_reserving-requires : goal.open_reserving-requires
 unfolding weight_outside
@@ -78,7 +70,7 @@ open_reserving-requires c =
     record {
       sound = passed (goal.at.open_reserving-requires c).Else-not-sound;
       desk = c.if-desk-ge-DESKS.false;
-      shut = shut (goal.at.open_reserving-requires c).Else-field_at-eq1;
-      limits = sym (c.outside_limits.ensures x.weight x.reservation) ∙ c.if-outside_limits.false;
+      shut = shut (goal.at.open_reserving-requires c).Else-is_open;
+      limits = sym c.outside_limits.ensures ∙ c.if-outside_limits.false;
       weight = le-ltb most_weight x.weight c.if-weight-gt-MOST_WEIGHT.false;
     }

@@ -1,7 +1,6 @@
 -- `entering::is_past` meets its contract: refusal 10. Assumes nothing.
 use native.Mathlib.Omega.{arith}
-use borrow.Author.Rules.{rules}
-use Rattle.store.proofs.Passing.{header_long, field_readable}
+use Rattle.store.proofs.Passing.{header_long}
 use Rattle.entering.proofs.Asking.{none_past, few_places, spanned, sum_small, past_is}
 use Rattle.entering.proofs.is_past.Goals as goal
 
@@ -13,36 +12,39 @@ returns-then-recent-found c =
 pub bounds-store-1 : goal.bounds-store-1
 bounds-store-1 c = omega (arith, header_long c.args.store.now c.requires.sound)
 
-pub overflow_cast-many : goal.overflow_cast-many
-overflow_cast-many c = omega (arith, c.type_inv.store 1)
+pub overflow_cast-n : goal.overflow_cast-n
+overflow_cast-n c = omega (arith, c.type_inv.store 1)
 
-pub slice_bounds-held_by-count : goal.slice_bounds-held_by-count
-slice_bounds-held_by-count c = omega (arith, header_long c.args.store.now c.requires.sound)
+pub slice_bounds-records-count : goal.slice_bounds-records-count
+slice_bounds-records-count c = omega (arith, header_long c.args.store.now c.requires.sound)
 
-pub slice_bounds-held_by-start : goal.slice_bounds-held_by-start
-slice_bounds-held_by-start c = omega (arith, header_long c.args.store.now c.requires.sound)
+pub slice_bounds-records-start : goal.slice_bounds-records-start
+slice_bounds-records-start c = omega (arith, header_long c.args.store.now c.requires.sound)
 
 pub bounds-places-found : goal.bounds-places-found
 bounds-places-found c =
     let x = c.args in
     few_places x.store.now x.desk x.recent.now x.sought.found x.sought.places c.requires c.if-recent-found.false
 
+pub invariant_of-held_by : goal.invariant_of-held_by
+invariant_of-held_by c =
+    let x = c.args in
+    record { standing = (spanned x.store.now x.desk x.recent.now x.sought.found x.sought.places c.requires c.if-recent-found.false).standing }
+
 pub held_by-held-requires : goal.held_by-held-requires
 held_by-held-requires c =
     let x = c.args in
     spanned x.store.now x.desk x.recent.now x.sought.found x.sought.places c.requires c.if-recent-found.false
 
-pub field_at-reserve-requires : goal.field_at-reserve-requires
-field_at-reserve-requires c =
-    let x = c.args in
-    field_readable x.store.now c.requires.sound x.desk c.requires.at_open.desk 4 (omega arith)
+pub invariant_of-numbers : goal.invariant_of-numbers
+invariant_of-numbers c = record { there = (header_long c.args.store.now c.requires.sound, c.requires.at_open.desk) }
 
 pub overflow_add-result : goal.overflow_add-result
 overflow_add-result c =
     let x = c.args in
-    omega (arith, sum_small x.store.now x.desk x.recent.now x.sought.found x.sought.places c.requires c.if-recent-found.false c.held_by-held.result c.field_at-reserve.result c.held_by-held.ensures c.field_at-reserve.ensures)
+    omega (arith, sum_small x.store.now x.desk x.recent.now x.sought.found x.sought.places c.requires c.if-recent-found.false c.held_by-held.result c.reserve-reserve.result c.held_by-held.ensures c.reserve-reserve.ensures)
 
 pub returns : goal.returns
 returns c =
     let x = c.args in
-    past_is x.store.now x.desk x.recent.now x.sought.found x.sought.places c.requires c.if-recent-found.false c.held_by-held.result c.field_at-reserve.result c.held_by-held.ensures c.field_at-reserve.ensures
+    past_is x.store.now x.desk x.recent.now x.sought.found x.sought.places c.requires c.if-recent-found.false c.held_by-held.result c.reserve-reserve.result c.held_by-held.ensures c.reserve-reserve.ensures

@@ -1,22 +1,16 @@
--- `entering::recent_of` meets its contract. Assumes nothing.
-use native.Mathlib.Omega.{arith}
-use borrow.Author.Rules.{rules}
-use Rattle.store.proofs.Passing.{field_readable}
-use Rattle.entering.proofs.Copying.{six_asked, copied}
+-- `entering::recent_of` meets its contract: all six places of the sample. Assumes nothing.
+use Rattle.std.proofs.Common.{arith, ap, length}
+use Rattle.contexts.specs.Sitting.{sample_of}
+use Rattle.records.specs.Samples.{sample_index}
+use Rattle.store.proofs.Passing.{header_long}
+use Rattle.store.proofs.Standing.{slots_long}
 use Rattle.entering.proofs.recent_of.Goals as goal
 
-pub field_at-many-requires : goal.field_at-many-requires
-field_at-many-requires c =
-    let x = c.args in
-    field_readable x.store.now c.requires.0 x.desk c.requires.1.desk 2 (omega arith)
+pub invariant_of-numbers : goal.invariant_of-numbers
+invariant_of-numbers c = record { there = (header_long c.args.store.now c.requires.0, c.requires.1.desk) }
 
-pub six_from-symbols-requires : goal.six_from-symbols-requires
-six_from-symbols-requires c =
+pub numbers_at-symbols-requires : goal.numbers_at-symbols-requires
+numbers_at-symbols-requires c =
     let x = c.args in
-    six_asked x.store.now x.desk x.sample c.requires.0 c.requires.1 c.requires.2
-
-pub returns : goal.returns
-returns c =
-    let depth = c.field_at-many in
-    let x = c.args in
-    copied x.store.now x.desk x.sample c.requires.0 c.requires.1 c.requires.2 depth.result c.six_from-symbols.result depth.ensures c.six_from-symbols.ensures
+    let six = slots_long x.store.now x.desk (sample_of (sample_index x.sample)) c.requires.1.desk (header_long x.store.now c.requires.0) in
+    (omega arith, omega (arith, ap length c.recent.ensures, six))

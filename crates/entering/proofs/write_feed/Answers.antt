@@ -1,6 +1,8 @@
 -- `entering::write_feed` meets its contract. Assumes nothing.
 use native.Mathlib.Omega.{arith}
 use borrow.Author.Rules.{rules}
+use Rattle.records.specs.Samples.{sample_index}
+use Rattle.records.proofs.Samples.{one_of_two}
 use Rattle.store.proofs.Passing.{header_long}
 use Rattle.entering.proofs.Writing.{lent_ready, count_fits, note_asks, written}
 use Rattle.entering.proofs.write_feed.Goals as goal
@@ -20,23 +22,23 @@ slice_bounds-body-start c = omega (arith, header_long c.args.store.now c.require
 pub feed_records-count-requires : goal.feed_records-count-requires
 feed_records-count-requires c =
     let x = c.args in
-    lent_ready x.store.now x.desk x.sample x.symbol c.requires.0 c.requires.1 x.recent.now c.requires.2 c.requires.4 x.sought.found x.sought.places c.requires.3
+    lent_ready x.store.now x.feed.desk (sample_index x.feed.sample) x.feed.symbol c.requires.0 (one_of_two x.feed.sample) x.recent.now c.requires.1 c.requires.3 x.sought.found x.sought.places c.requires.2
 
 pub overflow_cast-count : goal.overflow_cast-count
 overflow_cast-count c =
     let x = c.args in
     let fed = c.feed_records-count in
-    omega (arith, count_fits x.store.now x.desk x.sample x.symbol c.requires.0 c.requires.1 x.recent.now c.requires.2 c.requires.4 fed.result fed.new.numbers (search rules) fed.ensures)
+    omega (arith, count_fits x.store.now x.feed.desk (sample_index x.feed.sample) x.feed.symbol c.requires.0 (one_of_two x.feed.sample) x.recent.now c.requires.1 c.requires.3 fed.result fed.new.numbers (search rules) fed.ensures)
 
 pub note_at-requires : goal.note_at-requires
 note_at-requires c =
     let x = c.args in
     let fed = c.feed_records-count in
-    note_asks x.store.now x.desk x.sample x.symbol c.requires.0 c.requires.1 x.recent.now c.requires.2 c.requires.4 fed.result fed.new.numbers (search rules) fed.ensures
+    note_asks x.store.now x.feed.desk (sample_index x.feed.sample) x.feed.symbol c.requires.0 (one_of_two x.feed.sample) x.recent.now c.requires.1 c.requires.3 fed.result fed.new.numbers (search rules) fed.ensures
 
 pub returns : goal.returns
 returns c =
     let x = c.args in
     let fed = c.feed_records-count in
     let noted = c.note_at in
-    written x.store.now x.desk x.sample x.symbol c.requires.0 c.requires.1 x.recent.now c.requires.2 c.requires.4 fed.result fed.new.numbers (search rules) fed.ensures noted.new.store noted.ensures
+    written x.store.now x.feed.desk (sample_index x.feed.sample) x.feed.symbol c.requires.0 (one_of_two x.feed.sample) x.recent.now c.requires.1 c.requires.3 fed.result fed.new.numbers (search rules) fed.ensures noted.new.store noted.ensures

@@ -1,40 +1,34 @@
 -- `estimate::added` meets its contract: each of the eight sums fits, since each count is at most its sample's sum. Assumes nothing.
-use Prim.Native.Nat.{ℕ, ◌+◌, ◌<◌}
-use native.Mathlib.Omega.{arith}
-use mathlib.Core.List.{[]}
-use lib.ListN.{get_or}
-use mir.Val.{Fits}
-use mir.Syntax.{w32}
+use Rattle.std.proofs.Common.{◌≢◌, ◌<◌, length, arith, sym, ◌∙◌, below_more, get_or-set_same, get_or-set_other}
+use lib.ListN.{length-set}
+use lib.Seq.{ext_get_or}
 use Rattle.numbers.specs.Limits.{most_symbols}
 use Rattle.numbers.proofs.Sums.{sum_part}
+use Rattle.contexts.specs.Sitting.{first, second, eight, count_in}
+use Rattle.contexts.proofs.Tables.{eight_at}
+use Rattle.estimate.specs.Trees.{shared}
+use Rattle.estimate.specs.Table.{counts_in}
 use Rattle.estimate.proofs.added.Goals as goal
-use Rattle.estimate.proofs.added.Goals.{Start}
 
-fits : (c : Start) (k : ℕ) → k < most_symbols → Fits w32 (get_or (get_or c.args.counts 0 []) k 0 + get_or (get_or c.args.counts 1 []) k 0)
-fits c k h =
-    let t = c.args.counts in
-    omega (arith, sum_part most_symbols (λ a. get_or (get_or t 0 []) a 0) k h, sum_part most_symbols (λ a. get_or (get_or t 1 []) a 0) k h, c.requires)
+pub overflow_add-both : goal.overflow_add-both
+overflow_add-both c =
+    let count = count_in c.args.counts in
+    let a = c.loop-a.a in
+    omega (arith, sum_part most_symbols (count first) a c.loop-a-test.true, sum_part most_symbols (count second) a c.loop-a-test.true, c.loop-a.invariant.rest a (omega arith), c.requires)
 
-pub overflow_add-result : goal.overflow_add-result
-overflow_add-result c = fits (goal.at.overflow_add-result c).Start 0 (omega arith)
+pub loop-a-preserved : goal.loop-a-preserved
+loop-a-preserved c =
+    let i = c.loop-a.invariant in
+    let a = c.loop-a.a in
+    let inside : a < length c.loop-a.both = omega arith in
+    record {
+      long = length-set c.loop-a.both a _ ∙ i.long;
+      done = below_more _ _ (λ b l. let ne : b ≢ a = omega arith in rw get_or-set_other (i.done b l)) (rw get_or-set_same (rw (i.rest a (omega arith))));
+      rest = λ b l. let ne : b ≢ a = omega arith in rw get_or-set_other (i.rest b (omega arith));
+    }
 
-pub overflow_add-result-2 : goal.overflow_add-result-2
-overflow_add-result-2 c = fits (goal.at.overflow_add-result-2 c).Start 1 (omega arith)
-
-pub overflow_add-result-3 : goal.overflow_add-result-3
-overflow_add-result-3 c = fits (goal.at.overflow_add-result-3 c).Start 2 (omega arith)
-
-pub overflow_add-result-4 : goal.overflow_add-result-4
-overflow_add-result-4 c = fits (goal.at.overflow_add-result-4 c).Start 3 (omega arith)
-
-pub overflow_add-result-5 : goal.overflow_add-result-5
-overflow_add-result-5 c = fits (goal.at.overflow_add-result-5 c).Start 4 (omega arith)
-
-pub overflow_add-result-6 : goal.overflow_add-result-6
-overflow_add-result-6 c = fits (goal.at.overflow_add-result-6 c).Start 5 (omega arith)
-
-pub overflow_add-result-7 : goal.overflow_add-result-7
-overflow_add-result-7 c = fits (goal.at.overflow_add-result-7 c).Start 6 (omega arith)
-
-pub overflow_add-result-8 : goal.overflow_add-result-8
-overflow_add-result-8 c = fits (goal.at.overflow_add-result-8 c).Start 7 (omega arith)
+pub returns : goal.returns
+returns c =
+    let i = c.loop-a.invariant in
+    let both = counts_in c.args.counts shared in
+    ext_get_or 0 c.loop-a.both (eight both) i.long (λ a l. i.done a (omega arith) ∙ sym (eight_at both a (omega arith)))

@@ -1,9 +1,8 @@
 -- `estimate::quarter_of` meets its contract. Assumes nothing.
 use Prim.Native.Nat.{ℕ, ◌*◌, ◌-◌, ◌≤◌}
-use native.Mathlib.Nat.{lt_of_le_of_lt, mul-le-mul}
+use native.Mathlib.Nat.{mul-le-mul}
 use native.Mathlib.Omega.{arith}
 use mathlib.Core.Path.{◌≡◌, ap₂, ◌∙◌}
-use lib.Dec.{lit<}
 use Rattle.numbers.specs.Limits.{most_symbols, most_counted, top_log}
 use Rattle.logarithm.specs.Logarithm.{L}
 use Rattle.logarithm.proofs.Laws.{L_top}
@@ -17,10 +16,6 @@ product x l A n e f few h =
     let b : x ≤ most_symbols = omega arith in
     (ap₂ (λ (a b : ℕ). a * b) e f, mul-le-mul b t)
 
-pub overflow_mul-result : goal.overflow_mul-result
-overflow_mul-result c =
-    record { fits = lt_of_le_of_lt (product _ _ c.args.symbols c.args.n c.wide.ensures.0 (c.wide-2.ensures.0 ∙ c.log_at.ensures) c.requires.2 c.requires.3).1 (lit< tt) }
-
 pub returns : goal.returns
 returns c =
-    product _ _ c.args.symbols c.args.n c.wide.ensures.0 (c.wide-2.ensures.0 ∙ c.log_at.ensures) c.requires.2 c.requires.3
+    product _ _ c.args.symbols c.args.n c.from.ensures (c.from-2.ensures ∙ c.log_at.ensures) c.requires.1 c.requires.2

@@ -1,6 +1,5 @@
 -- `feeding::feed` meets its contract. Assumes nothing.
 use mathlib.Core.Path.{sym, ◌∙◌}
-use borrow.Author.Rules.{rules}
 use Rattle.calls.proofs.Keeping.{moves_unsound}
 use Rattle.feeding.proofs.feed.Goals as goal
 

@@ -1,6 +1,5 @@
 -- `feeding::feed_all` meets its contract. Assumes nothing.
 use mathlib.Core.Path.{sym, ◌∙◌}
-use borrow.Author.Rules.{rules}
 use Rattle.calls.proofs.Running.{run_unsound}
 use Rattle.feeding.proofs.feed_all.Goals as goal
 

@@ -1,51 +1,25 @@
 -- `feeding::feed_run` meets its contract: after `done` accepted feeds what is left of the run decides. Assumes nothing.
-use Prim.Native.Nat.{◌-◌}
-use native.Mathlib.Omega.{arith}
-use borrow.Author.Rules.{rules}
-use mathlib.Core.Path.{◌≡◌, subst, ◌∙◌}
-use lib.ListN.{length, get_or}
-use Rattle.calls.specs.declared.Verdict.{Verdict}
-use Rattle.calls.specs.declared.Verdict.TheVariants.{Done, Refused}
-use Rattle.calls.specs.Refusals.{refusal_number, outcome_of}
-use Rattle.calls.specs.Promises.{Moves}
-use Rattle.calls.specs.Run.{feeding}
-use Rattle.calls.proofs.Running.{Ran, ran_start, ran_on, ran_refused, ran_whole}
+use Rattle.std.proofs.Common.{arith, ◌≡◌, subst, ℕ, length}
+use Rattle.replay.specs.Table.{answered}
+use Rattle.rules.specs.Rules.{done}
+use Rattle.calls.specs.Run.{Runs}
+use Rattle.calls.proofs.Running.{ran_start, ran_on, ran_refused, ran_whole}
 use Rattle.feeding.proofs.feed_run.Goals as goal
 
 pub loop-done-init : goal.loop-done-init
-loop-done-init c =
-    let x = c.args in
-    ran_start x.store.now x.desk x.sample x.symbols.now c.requires
+loop-done-init c = ran_start _ _ _ _ c.requires
 
-pub feed_sound-requires : goal.feed_sound-requires
-feed_sound-requires c = c.loop-done.invariant.sound
+pub returns-in-Err : goal.returns-in-Err
+returns-in-Err c =
+    ran_refused _ _ _ _ _ _ c.loop-done.invariant _ _ c.requires (omega arith) (rw c.from.ensures at c.in-Err.ensures)
 
 pub loop-done-preserved : goal.loop-done-preserved
 loop-done-preserved c =
-    let x = c.args in
-    let at = c.loop-done in
-    let fed = c.feed_sound in
-    let told : fed.result ≡ Done = c.in-Done.is in
-    ran_on x.store.now x.desk x.sample x.symbols.now at.store at.done at.invariant fed.new.store (omega arith) (subst (λ (v : Verdict). Moves at.store (feeding x.desk x.sample (get_or x.symbols.now at.done 0)) (outcome_of v) fed.new.store) told fed.ensures)
-
-pub shape_of-store-in-Refused : goal.shape_of-store-in-Refused
-shape_of-store-in-Refused c = c.feed_sound.ensures.length_stays ∙ c.loop-done.invariant.long
-
-pub returns-in-Refused : goal.returns-in-Refused
-returns-in-Refused c =
-    let x = c.args in
-    let at = c.loop-done in
-    let fed = c.feed_sound in
-    let why = c.in-Refused.why in
-    let told : fed.result ≡ Refused why = c.in-Refused.is in
-    ran_refused x.store.now x.desk x.sample x.symbols.now at.store at.done at.invariant fed.new.store (refusal_number why) c.requires (omega arith)
-    (subst (λ (v : Verdict). Moves at.store (feeding x.desk x.sample (get_or x.symbols.now at.done 0)) (outcome_of v) fed.new.store) told fed.ensures)
-
-pub shape_of-store : goal.shape_of-store
-shape_of-store c = c.loop-done.invariant.long
+    ran_on _ _ _ _ _ _ c.loop-done.invariant _ (omega arith) (rw c.from.ensures at c.in_default.ensures)
 
 pub returns : goal.returns
 returns c =
     let x = c.args in
     let at = c.loop-done in
-    ran_whole x.store.now x.desk x.sample x.symbols.now at.store at.done at.invariant c.requires (omega arith)
+    let whole : at.done ≡ length x.symbols.now = omega arith in
+    subst (λ (n : ℕ). Runs x.store.now x.desk x.sample x.symbols.now n (answered done) at.store) whole (ran_whole _ _ _ _ _ _ at.invariant c.requires (omega arith))

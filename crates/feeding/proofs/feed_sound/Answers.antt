@@ -1,60 +1,54 @@
 -- `feeding::feed_sound` meets its contract: one line of the table after the other. Assumes nothing.
-use Prim.Native.Nat.{◌+◌}
+use mathlib.Core.Path.{◌≡◌}
 use native.Mathlib.Omega.{arith}
-use borrow.Author.Rules.{rules}
-use Rattle.store.specs.Layout.{opening_numbers}
-use Rattle.store.specs.Plain.{Open}
-use Rattle.store.proofs.Passing.{field_readable}
-use Rattle.feeding.proofs.Refusing.{opened, refused_desk, refused_open, refused_sample, refused_symbol, refused_full, judged}
+use Rattle.std.proofs.lemmas.Result.{err_from_is_err_and}
+use Rattle.contexts.specs.Sitting.{sample_of}
+use Rattle.store.specs.Layout.{field, size_at}
+use Rattle.store.proofs.Passing.{header_long}
+use Rattle.calls.proofs.Keeping.{moves_stopped}
+use Rattle.records.proofs.Samples.{few_samples}
+use Rattle.feeding.proofs.Refusing.{refused_sample, refused_symbol, refused_full, judged}
 use Rattle.feeding.proofs.feed_sound.Goals as goal
-use Rattle.feeding.proofs.feed_sound.Goals.{Else-field_at-ne1}
 
-open_there : (c : Else-field_at-ne1) → (let x = c.args in Open x.store.now x.desk)
-open_there c =
-    let x = c.args in
-    opened x.store.now x.desk c.field_at.result c.if-d-ge-DESKS.false c.field_at.ensures c.if-field_at-ne1.false
+pub returns-in_err-at : goal.returns-in_err-at
+returns-in_err-at c =
+    let p = err_from_is_err_and c.from_residual.result c.from_residual.ensures.1 in
+    rw (p.1, p.2) (moves_stopped _ _ _ (c.in_err-at.ensures.asks _))
 
-pub returns-then-d-ge-DESKS : goal.returns-then-d-ge-DESKS
-returns-then-d-ge-DESKS c =
+pub returns-in_default : goal.returns-in_default
+returns-in_default c =
     let x = c.args in
-    refused_desk x.store.now c.requires x.desk x.sample x.symbol c.if-d-ge-DESKS.true
+    refused_sample x.store.now c.requires x.desk x.sample x.symbol c.in_ok-at.ensures.at_open c.in_default.ensures.1
 
-pub field_at-requires : goal.field_at-requires
-field_at-requires c =
-    let x = c.args in
-    field_readable x.store.now c.requires x.desk c.if-d-ge-DESKS.false 0 (omega arith)
+pub invariant_of-numbers : goal.invariant_of-numbers
+invariant_of-numbers c =
+    let found = c.in_ok-at.ensures in
+    record { there = (header_long c.args.store.now c.requires, omega (arith, found.number, found.at_open.desk)) }
 
-pub returns-then-field_at-ne1 : goal.returns-then-field_at-ne1
-returns-then-field_at-ne1 c =
+pub returns-then-symbols-symbol : goal.returns-then-symbols-symbol
+returns-then-symbols-symbol c =
     let x = c.args in
-    refused_open x.store.now c.requires x.desk x.sample x.symbol c.field_at.result c.if-d-ge-DESKS.false c.field_at.ensures c.if-field_at-ne1.true
+    let found = c.in_ok-at.ensures in
+    let A : c.symbols.result ≡ field x.store.now x.desk 1 = rw found.number at c.symbols.ensures in
+    refused_symbol x.store.now c.requires x.desk x.sample x.symbol found.at_open (few_samples c.in-Ok.which x.sample c.in-Ok.ensures) _ A c.if-symbols-symbol.true
 
-pub returns-then-sample-gt1 : goal.returns-then-sample-gt1
-returns-then-sample-gt1 c =
+pub returns-then-size-ge-LONGEST : goal.returns-then-size-ge-LONGEST
+returns-then-size-ge-LONGEST c =
     let x = c.args in
-    refused_sample x.store.now c.requires x.desk x.sample x.symbol (open_there (goal.at.returns-then-sample-gt1 c).Else-field_at-ne1) c.if-sample-gt1.true
-
-pub field_at-requires-2 : goal.field_at-requires-2
-field_at-requires-2 c =
-    let x = c.args in
-    field_readable x.store.now c.requires x.desk (open_there (goal.at.field_at-requires-2 c).Else-field_at-ne1).desk 1 (omega arith)
-
-pub returns-then-field_at-symbol : goal.returns-then-field_at-symbol
-returns-then-field_at-symbol c =
-    let x = c.args in
-    refused_symbol x.store.now c.requires x.desk x.sample x.symbol (open_there (goal.at.returns-then-field_at-symbol c).Else-field_at-ne1) c.if-sample-gt1.false c.field_at-2.result c.field_at-2.ensures c.if-field_at-symbol.true
-
-pub field_at-requires-3 : goal.field_at-requires-3
-field_at-requires-3 c =
-    let x = c.args in
-    field_readable x.store.now c.requires x.desk (open_there (goal.at.field_at-requires-3 c).Else-field_at-ne1).desk (opening_numbers + x.sample) (omega (arith, c.if-sample-gt1.false))
-
-pub returns-then-field_at-ge-LONGEST : goal.returns-then-field_at-ge-LONGEST
-returns-then-field_at-ge-LONGEST c =
-    let x = c.args in
-    refused_full x.store.now c.requires x.desk x.sample x.symbol (open_there (goal.at.returns-then-field_at-ge-LONGEST c).Else-field_at-ne1) c.if-sample-gt1.false c.field_at-2.result c.field_at-2.ensures c.if-field_at-symbol.false c.field_at-3.result c.field_at-3.ensures c.if-field_at-ge-LONGEST.true
+    let found = c.in_ok-at.ensures in
+    let few = few_samples c.in-Ok.which x.sample c.in-Ok.ensures in
+    let A : c.symbols.result ≡ field x.store.now x.desk 1 = rw found.number at c.symbols.ensures in
+    let n : c.size.result ≡ size_at x.store.now x.desk (sample_of x.sample) = rw (found.number, c.in-Ok.ensures) at c.size.ensures in
+    refused_full x.store.now c.requires x.desk x.sample x.symbol found.at_open few _ A c.if-symbols-symbol.false _ n c.if-size-ge-LONGEST.true
 
 pub feed_judged-requires : goal.feed_judged-requires
 feed_judged-requires c =
     let x = c.args in
-    judged x.store.now c.requires x.desk x.sample x.symbol (open_there (goal.at.feed_judged-requires c).Else-field_at-ne1) c.if-sample-gt1.false c.field_at-2.result c.field_at-2.ensures c.if-field_at-symbol.false c.field_at-3.result c.field_at-3.ensures c.if-field_at-ge-LONGEST.false
+    let found = c.in_ok-at.ensures in
+    let few = few_samples c.in-Ok.which x.sample c.in-Ok.ensures in
+    let A : c.symbols.result ≡ field x.store.now x.desk 1 = rw found.number at c.symbols.ensures in
+    let n : c.size.result ≡ size_at x.store.now x.desk (sample_of x.sample) = rw (found.number, c.in-Ok.ensures) at c.size.ensures in
+    rw c.in-Ok.ensures (judged x.store.now c.requires x.desk x.sample x.symbol found.at_open few _ A c.if-symbols-symbol.false _ n c.if-size-ge-LONGEST.false)
+
+pub returns : goal.returns
+returns c = rw c.in-Ok.ensures at c.feed_judged.ensures

@@ -3,15 +3,6 @@ use native.Mathlib.Omega.{arith}
 use Rattle.logarithm.proofs.Squaring.{starts, turn, done}
 use Rattle.logarithm.proofs.log_of.Goals as goal
 
-pub overflow_cast-lead-2 : goal.overflow_cast-lead-2
-overflow_cast-lead-2 c = omega (arith, (starts c.args.n c.requires.0 c.requires.1).zeros_small)
-
-pub overflow_shl-lead : goal.overflow_shl-lead
-overflow_shl-lead c = omega (arith, (starts c.args.n c.requires.0 c.requires.1).zeros_small)
-
-pub overflow_sub-k : goal.overflow_sub-k
-overflow_sub-k c = omega (arith, (starts c.args.n c.requires.0 c.requires.1).zeros_small)
-
 pub loop-k-init : goal.loop-k-init
 loop-k-init c = let start = starts c.args.n c.requires.0 c.requires.1 in (omega (arith, start.zeros_small), start.run)
 
@@ -21,17 +12,11 @@ overflow_mul-square c = record { fits = (turn _ _ _ c.loop-k.invariant.1 (omega 
 pub overflow_shr-lead-in-loop-k : goal.overflow_shr-lead-in-loop-k
 overflow_shr-lead-in-loop-k c = omega (arith, (turn _ _ _ c.loop-k.invariant.1 (omega (arith, c.loop-k-test.true))).square_small)
 
-pub overflow_mul-k : goal.overflow_mul-k
-overflow_mul-k c = omega (arith, c.loop-k-test.true)
-
 pub overflow_cast-k : goal.overflow_cast-k
 overflow_cast-k c = omega (arith, (turn _ _ _ c.loop-k.invariant.1 (omega (arith, c.loop-k-test.true))).square_small)
 
 pub overflow_add-k : goal.overflow_add-k
 overflow_add-k c = omega (arith, c.loop-k-test.true, (turn _ _ _ c.loop-k.invariant.1 (omega (arith, c.loop-k-test.true))).square_small)
-
-pub loop-k-smaller : goal.loop-k-smaller
-loop-k-smaller c = omega (arith, c.loop-k-test.true, c.loop-k.invariant.0)
 
 pub loop-k-preserved : goal.loop-k-preserved
 loop-k-preserved c = let loop = c.loop-k in (omega (arith, loop.invariant.0), (turn _ _ _ loop.invariant.1 (omega (arith, c.loop-k-test.true))).rest)

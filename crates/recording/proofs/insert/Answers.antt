@@ -12,10 +12,10 @@ use Rattle.recording.proofs.insert.Goals as goal
 
 -- the front that is lent has room for the new records alone
 front : (c : After-shift_up) → (let x = c.args in
-    let gap = width * (length x.recent.now + 1 - x.found) in length (take gap c.shift_up.new.part) ≡ gap)
+    let gap = width * (length x.missing.recent.now + 1 - x.missing.found) in length (take gap c.shift_up.new.part) ≡ gap)
 front c =
     let x = c.args in
-    length-take-le (width * (length x.recent.now + 1 - x.found)) c.shift_up.new.part (search rules)
+    length-take-le (width * (length x.missing.recent.now + 1 - x.missing.found)) c.shift_up.new.part (search rules)
 
 pub slice_bounds-write_run-end-2 : goal.slice_bounds-write_run-end-2
 slice_bounds-write_run-end-2 c = sym (front (goal.at.slice_bounds-write_run-end-2 c).After-shift_up)
@@ -30,6 +30,6 @@ returns c =
     let x = c.args in
     let shifted = c.shift_up in
     let wrote = c.write_run in
-    let gap = width * (length x.recent.now + 1 - x.found) in
+    let gap = width * (length x.missing.recent.now + 1 - x.missing.found) in
     let same : length wrote.new.part ≡ length (take gap shifted.new.part) = search rules in
-    inserted x.desk x.recent.now x.found x.cell x.part.now shifted.new.part wrote.new.part c.requires shifted.ensures (same ∙ front (goal.at.returns c).After-shift_up) wrote.ensures
+    inserted x.missing.desk x.missing.recent.now x.missing.found x.missing.cell x.part.now shifted.new.part wrote.new.part c.requires shifted.ensures (same ∙ front (goal.at.returns c).After-shift_up) wrote.ensures

@@ -1,6 +1,5 @@
 -- `recording::write_run` meets its contract: the records of the contexts that are shorter than `seen` are written. Assumes nothing.
 use mathlib.Core.Path.{◌≡◌}
-use Prim.Native.Nat.{◌+◌, ◌-◌}
 use lib.ListN.{length}
 use Rattle.records.proofs.KeyWalk.{Walk}
 use Rattle.recording.proofs.Opening.{Run}
@@ -8,7 +7,4 @@ use Rattle.recording.proofs.write_run.Given as goal
 
 abbrev pub invariant-loop-seen : goal.invariant-loop-seen
 invariant-loop-seen l =
-    Walk l.desk l.recent l.key l.eights l.seen × (length l.part ≡ length l.initial.part) × Run l.desk l.recent l.found l.cell l.seen l.part
-
-abbrev pub decreases-loop-seen : goal.decreases-loop-seen
-decreases-loop-seen l = length l.recent + 1 - l.seen
+    Walk l.missing.desk l.recent l.key l.eights l.seen × (length l.part ≡ length l.initial.part) × Run l.missing.desk l.recent l.missing.found l.missing.cell l.seen l.part

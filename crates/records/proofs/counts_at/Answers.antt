@@ -11,5 +11,5 @@ returns c =
     let at = c.args.at in
     let l = c.args.numbers.now in
     ap₂ {C = List (List ℕ)} (λ a b. a ∷ b ∷ [])
-    (c.eight_at-first.ensures ∙ record_cells at 1 l (omega arith))
-    (c.eight_at-second.ensures ∙ record_cells at 9 l (omega arith))
+    (c.numbers_at-first.ensures ∙ record_cells at 1 l (omega arith))
+    (c.numbers_at-second.ensures ∙ record_cells at 9 l (omega arith))

@@ -3,8 +3,5 @@ use Prim.Native.Nat.{◌-◌}
 use Rattle.salvage_input.specs.Filter.{most_told}
 use Rattle.salvaging.proofs.count_beyond.Given as goal
 
-abbrev pub invariant-loop-counted : goal.invariant-loop-counted
-invariant-loop-counted g l = Unit {0}
-
 abbrev pub decreases-loop-counted : goal.decreases-loop-counted
 decreases-loop-counted g l = most_told - l.counted

@@ -1,6 +1,5 @@
 -- `sobumikeyo_feed_all` meets its contract: no run has more than 2,048 accepted feeds, which fit. Assumes nothing.
 use native.Mathlib.Omega.{arith}
-use borrow.Author.Rules.{rules}
 use Rattle.calls.proofs.FewFeeds.{run_few}
 use Rattle.sobumikeyo.proofs.sobumikeyo_feed_all.Goals as goal
 

@@ -1,12 +1,11 @@
 -- `sobumikeyo_read` meets its contract: the reader's answer, as numbers. Assumes nothing.
-use borrow.Author.Rules.{rules}
 use Rattle.told.proofs.Telling.{read_refused, read_told}
 use Rattle.sobumikeyo.proofs.sobumikeyo_read.Goals as goal
 
-pub returns-in-Refused : goal.returns-in-Refused
-returns-in-Refused c =
-    read_refused c.read.result c.read.ensures c.in-Refused.is c.refusal_number.ensures
+pub returns-in-Err : goal.returns-in-Err
+returns-in-Err c =
+    read_refused c.read.result c.read.ensures c.in-Err.is c.from.ensures
 
-pub returns-in-Accepted : goal.returns-in-Accepted
-returns-in-Accepted c =
-    read_told c.read.result c.read.ensures c.in-Accepted.is
+pub returns-in-Ok : goal.returns-in-Ok
+returns-in-Ok c =
+    read_told c.read.result c.read.ensures c.in-Ok.is

@@ -1,12 +1,11 @@
 -- `sobumikeyo_room` meets its contract: the room question's answer, as numbers. Assumes nothing.
-use borrow.Author.Rules.{rules}
 use Rattle.told.proofs.Telling.{room_refused, room_told}
 use Rattle.sobumikeyo.proofs.sobumikeyo_room.Goals as goal
 
-pub returns-in-Refused : goal.returns-in-Refused
-returns-in-Refused c =
-    room_refused c.room_left.result c.room_left.ensures c.in-Refused.is c.number_of.ensures
+pub returns-in-Err : goal.returns-in-Err
+returns-in-Err c =
+    room_refused c.room_left.result c.room_left.ensures c.in-Err.is c.from.ensures
 
-pub returns-in-Contexts : goal.returns-in-Contexts
-returns-in-Contexts c =
-    room_told c.room_left.result c.room_left.ensures c.in-Contexts.is
+pub returns-in-Ok : goal.returns-in-Ok
+returns-in-Ok c =
+    room_told c.room_left.result c.room_left.ensures c.in-Ok.is

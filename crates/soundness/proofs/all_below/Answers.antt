@@ -1,29 +1,15 @@
--- `soundness::all_below` meets its contract: what is left of the part decides. Assumes nothing.
-use mathlib.Core.Path.{refl, sym, ◌∙◌}
-use native.Mathlib.Omega.{arith}
-use borrow.Author.Tests.{lt-ltb, le-ltb}
-use lib.ListN.{get_or}
-use Rattle.numbers.proofs.Every.{all_step, all_end}
+-- `soundness::all_below` meets its contract: the test of one symbol, of them all. Assumes nothing.
+use mathlib.Core.Path.{refl}
+use Prim.Native.Nat.{◌<◌}
+use borrow.Author.Rules.{rules}
+use lib.Dec.{ltb}
+use Rattle.std.proofs.lemmas.Bool.Decides.{same_from_decides, Decides-by_and, Decides-ltb}
+use Rattle.numbers.specs.Every.{all}
 use Rattle.store.specs.Sound.{of_alphabet}
 use Rattle.soundness.proofs.all_below.Goals as goal
 
-pub loop-i-init : goal.loop-i-init
-loop-i-init c = (omega arith, refl)
-
-pub loop-i-preserved : goal.loop-i-preserved
-loop-i-preserved c =
-    let loop = c.loop-i in
-    let args = c.args in
-    (omega arith, rw (← loop.invariant.1, all_step (of_alphabet args.a) args.part.now loop.i 0 (omega arith), lt-ltb (get_or args.part.now loop.i 0) args.a c.if-part-i.true))
-
-pub returns-else-part-i : goal.returns-else-part-i
-returns-else-part-i c =
-    let loop = c.loop-i in
-    let args = c.args in
-    rw (← loop.invariant.1, all_step (of_alphabet args.a) args.part.now loop.i 0 (omega arith), le-ltb (get_or args.part.now loop.i 0) args.a c.if-part-i.false)
-
 pub returns : goal.returns
+unfolding all
 returns c =
-    let loop = c.loop-i in
-    let args = c.args in
-    sym (all_end (of_alphabet args.a) args.part.now loop.i (omega arith)) ∙ loop.invariant.1
+    let a = c.args.a in
+    same_from_decides c.all.result (all (of_alphabet a) c.args.part.now) (search rules) (Decides-by_and (λ x. ltb x a) (λ x. x < a) (all (of_alphabet a)) (λ x. Decides-ltb x a) refl (λ x xs. refl) c.args.part.now)

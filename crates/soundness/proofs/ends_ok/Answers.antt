@@ -7,4 +7,4 @@ use Rattle.soundness.proofs.ends_ok.Goals as goal
 
 pub returns : goal.returns
 unfolding ends_ok
-returns c = ap (λ (w : ℕ). eqb (c.args.key % w) (c.args.key % 8)) c.eights_of-w.ensures.0
+returns c = ap (λ (w : ℕ). eqb (c.args.key % w) (c.args.key % 8)) c.eights_of-w.ensures.power

@@ -7,6 +7,6 @@ pub returns-then-seen-gt0 : goal.returns-then-seen-gt0
 unfolding seen_mark
 returns-then-seen-gt0 c = rw (lt-ltb 0 c.args.seen c.if-seen-gt0.true)
 
-pub returns : goal.returns
+pub returns-else-seen-gt0 : goal.returns-else-seen-gt0
 unfolding seen_mark
-returns c = rw (le-ltb 0 c.args.seen c.if-seen-gt0.false)
+returns-else-seen-gt0 c = rw (le-ltb 0 c.args.seen c.if-seen-gt0.false)

@@ -7,6 +7,6 @@ pub returns-then-seen-eq0 : goal.returns-then-seen-eq0
 unfolding mark_ok
 returns-then-seen-eq0 c = rw (eq-eqb c.args.seen 0 c.if-seen-eq0.true)
 
-pub returns : goal.returns
+pub returns-else-seen-eq0 : goal.returns-else-seen-eq0
 unfolding mark_ok
-returns c = rw (ne_eqb c.args.seen 0 c.if-seen-eq0.false)
+returns-else-seen-eq0 c = rw (ne_eqb c.args.seen 0 c.if-seen-eq0.false)

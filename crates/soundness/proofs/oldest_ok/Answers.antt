@@ -8,4 +8,4 @@ use Rattle.soundness.proofs.oldest_ok.Goals as goal
 
 pub returns : goal.returns
 unfolding oldest_ok
-returns c = ap (λ (w : ℕ). ltb (c.args.key % desk_span / w % 8) c.args.a) c.eights_of-w.ensures.0
+returns c = ap (λ (w : ℕ). ltb (c.args.key % desk_span / w % 8) c.args.a) c.eights_of-w.ensures.power

@@ -17,4 +17,4 @@ overflow_add-result c = omega (arith, round_le c.args.key c.eights_of-w.result)
 
 pub returns : goal.returns
 unfolding up_mark
-returns c = ap (λ (w : ℕ). c.args.key / w / 8 * 8 * w + c.args.key % 8) c.eights_of-w.ensures.0
+returns c = ap (λ (w : ℕ). c.args.key / w / 8 * 8 * w + c.args.key % 8) c.eights_of-w.ensures.power

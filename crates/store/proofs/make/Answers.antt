@@ -1,5 +1,6 @@
 -- `store::make` meets its contract: each refusal by the test that led there, and otherwise a header of zeros but for K. Assumes nothing.
 use mathlib.Core.List.{List, ◌++◌}
+use mathlib.Core.Logic.{inl, inr}
 use mathlib.Core.Path.{◌≡◌, sym, ap, ◌∙◌}
 use Prim.Native.Nat.{ℕ, ◌≤◌, ◌<◌}
 use native.Mathlib.Omega.{arith}
@@ -8,22 +9,14 @@ use lib.ListN.{length, take, drop, set, replicate}
 use lib.Seq.{length-take-le}
 use Rattle.numbers.specs.Limits.{most_room}
 use Rattle.store.specs.Layout.{header_size, store_size}
-use Rattle.store.specs.declared.Made.TheVariants.{RoomOutside, StoreShort}
+use Rattle.store.specs.declared.Refusal.TheVariants.{RoomOutside, StoreShort}
 use Rattle.store.proofs.NewStore.{making_refused, making_done}
 use Rattle.store.proofs.make.Goals as goal
 
 pub returns-then-many-lt1 : goal.returns-then-many-lt1
 returns-then-many-lt1 c =
     let K = c.args.room in
-    let h : K < 1 = omega arith in
-    making_refused K _ RoomOutside (rw (lt-ltb K 1 h)) (λ e. let z : ◌≡◌ {A = ℕ} 0 1 = cc in omega arith)
-
-pub returns-then-many-gt-MOST_ROOM : goal.returns-then-many-gt-MOST_ROOM
-returns-then-many-gt-MOST_ROOM c =
-    let K = c.args.room in
-    let l : 1 ≤ K = omega arith in
-    let h : most_room < K = omega arith in
-    making_refused K _ RoomOutside (rw (le-ltb K 1 l, lt-ltb most_room K h)) (λ e. let z : ◌≡◌ {A = ℕ} 0 1 = cc in omega arith)
+    making_refused K _ RoomOutside (elim c.then-many-lt1.either [ inl low ↦ rw (lt-ltb K 1 low) | inr high ↦ rw (le-ltb K 1 high.0, lt-ltb most_room K high.1) ])
 
 pub returns-then-store-many : goal.returns-then-store-many
 returns-then-store-many c =
@@ -32,15 +25,15 @@ returns-then-store-many c =
     let l : 1 ≤ K = omega arith in
     let h : K ≤ most_room = omega arith in
     let m : length s < store_size K = omega arith in
-    making_refused K s StoreShort (rw (le-ltb K 1 l, le-ltb most_room K h, lt-ltb (length s) (store_size K) m)) (λ e. let z : ◌≡◌ {A = ℕ} 0 1 = cc in omega arith)
+    making_refused K s StoreShort (rw (le-ltb K 1 l, le-ltb most_room K h, lt-ltb (length s) (store_size K) m))
 
-pub slice_bounds-clear-end-2 : goal.slice_bounds-clear-end-2
-slice_bounds-clear-end-2 c = sym (length-take-le header_size c.args.store.now (omega arith))
+pub slice_bounds-fill-end-2 : goal.slice_bounds-fill-end-2
+slice_bounds-fill-end-2 c = sym (length-take-le header_size c.args.store.now (omega arith))
 
 pub returns : goal.returns
 returns c =
     let K = c.args.room in
     let s = c.args.store.now in
     let many : length (take header_size s) ≡ header_size = length-take-le header_size s (omega arith) in
-    let zeros : c.clear.new.part ≡ replicate header_size 0 = c.clear.ensures ∙ ap (λ (n : ℕ). replicate n 0) many in
+    let zeros : c.fill.new.self ≡ replicate header_size 0 = c.fill.ensures.after (λ y e. e) ∙ ap (λ (n : ℕ). replicate n 0) many in
     making_done K s _ (omega arith) (omega arith) (omega arith) (ap (λ (z : List ℕ). set (z ++ drop header_size s) 0 K) zeros)

@@ -3,6 +3,3 @@ use Rattle.weighing.proofs.and_unseen.Goals as goal
 
 pub and_child-requires : goal.and_child-requires
 and_child-requires c = c.requires.fits c.as_leaf.result c.as_leaf.ensures
-
-pub returns : goal.returns
-returns c = record { leaf = c.as_leaf.result; is = c.as_leaf.ensures; child = c.and_child.ensures }

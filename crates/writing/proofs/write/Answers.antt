@@ -22,10 +22,21 @@ returns-then-not-good_values c =
     let s = c.args in
     bad_stays s.alphabet s.depth s.first.now s.second.now s.file.now (λ t. not_both _ (is_true _ t) (sym c.if-not-good_values.ensures))
 
-pub file_size-requires : goal.file_size-requires
-file_size-requires c =
+pub overflow_cast-shape : goal.overflow_cast-shape
+overflow_cast-shape c =
     let s = c.args in
-    let l = (values s.alphabet s.depth s.first.now s.second.now c.if-not-good_values.ensures).limits in (l.first_high, l.second_high)
+    record { fits = omega (arith, (values s.alphabet s.depth s.first.now s.second.now c.if-not-good_values.ensures).limits.first_high) }
+
+pub overflow_cast-shape-2 : goal.overflow_cast-shape-2
+overflow_cast-shape-2 c =
+    let s = c.args in
+    record { fits = omega (arith, (values s.alphabet s.depth s.first.now s.second.now c.if-not-good_values.ensures).limits.second_high) }
+
+pub invariant_of-sitting : goal.invariant_of-sitting
+invariant_of-sitting c =
+    let s = c.args in
+    let good = values s.alphabet s.depth s.first.now s.second.now c.if-not-good_values.ensures in
+    record { in_limits = good.limits; first_below = good.first_below; second_below = good.second_below }
 
 pub returns-then-file-file_size : goal.returns-then-file-file_size
 returns-then-file-file_size c =
@@ -36,7 +47,7 @@ returns-then-file-file_size c =
 pub put_file-size-requires : goal.put_file-size-requires
 put_file-size-requires c =
     let s = c.args in
-    (of_true _ (sym c.if-not-good_values.ensures), omega (arith, size s.alphabet s.depth s.first.now s.second.now c.if-not-good_values.ensures _ c.file_size.ensures))
+    omega (arith, size s.alphabet s.depth s.first.now s.second.now c.if-not-good_values.ensures _ c.file_size.ensures)
 
 pub returns : goal.returns
 returns c =

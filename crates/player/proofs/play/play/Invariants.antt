@@ -1,11 +1,9 @@
--- `player::play::play` is safe and ends: each call goes on past its opcode, and the store keeps its length. Assumes nothing.
-use mathlib.Core.Path.{◌≡◌}
-use Prim.Native.Nat.{◌-◌}
-use lib.ListN.{length}
+-- `player::play` ends: each call reads a number at least, and it lends no more numbers than there are. Assumes nothing.
+use Rattle.std.proofs.Common.{◌≤◌, length}
 use Rattle.player.proofs.play.play.Given as goal
 
-abbrev pub invariant-loop-at : goal.invariant-loop-at
-invariant-loop-at g l = length l.store ≡ length l.initial.store
-
-abbrev pub decreases-loop-at : goal.decreases-loop-at
-decreases-loop-at g l = length l.script - l.at
+abbrev pub invariant-loop-opcode : goal.invariant-loop-opcode
+invariant-loop-opcode g l =
+    (goal.iterator-loop-opcode g).can_next l.script ×
+    (goal.iterator-loop-opcode g).is_finite l.script ×
+    (l.lent ≤ length l.store)

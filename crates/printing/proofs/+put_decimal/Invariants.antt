@@ -1,5 +1,0 @@
--- The measure of `printing::put_decimal` is the number. Assumes nothing.
-use Rattle.printing.proofs.+put_decimal.Given as goal
-
-abbrev pub decreases-put_decimal : goal.decreases-put_decimal
-decreases-put_decimal l = l.n
