@@ -40,7 +40,8 @@ fn answer_file(rt: &HostRuntime, name: &[u8]) -> io::Result<()> {
     let mut stdout = rt.stdout();
     write_full(&mut stdout, name);
     write_full(&mut stdout, b"\n");
-    answer_stream(&mut file, &mut stdout);
+    let mut store = [0u32; 8192];
+    answer_stream(&mut file, &mut stdout, &mut store);
     Ok(())
 }
 

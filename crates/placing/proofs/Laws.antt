@@ -1,11 +1,12 @@
 -- A piece put into bytes, and one piece after another. Assumes nothing.
-use Prim.Native.Nat.{ℕ, ◌+◌}
+use Prim.Native.Nat.{ℕ, ◌+◌, ◌<◌}
 use native.Mathlib.Omega.{arith}
+use native.Mathlib.Numerals.{add-one}
 use native.Mathlib.Nat.{add-zero}
-use mathlib.Core.Path.{◌≡◌, sym, ap, ap₂, ◌∙◌}
-use mathlib.Core.List.{List, [], ◌++◌, append_assoc}
-use lib.ListN.{length, take, drop, length-append, length-take, length-drop, take-append-drop}
-use lib.Seq.{take_at, drop_at, drop-drop, length-take-le}
+use mathlib.Core.Path.{◌≡◌, refl, sym, ap, ap₂, ◌∙◌}
+use mathlib.Core.List.{List, [], ◌∷◌, ◌++◌, append_assoc}
+use lib.ListN.{length, get_or, take, drop, set, length-append, length-take, length-drop, take-append-drop}
+use lib.Seq.{take-suc, set_split, take_at, drop_at, drop-drop, length-take-le}
 use Rattle.placing.specs.Placing.{laid, HasRoom, Puts}
 
 -- ---- one piece
@@ -20,6 +21,10 @@ module _ (piece : List ℕ) (at : ℕ) (before : List ℕ) where
 -- THEOREM. Two results that one promise allows are equal
 pub puts_settled : (piece : List ℕ) (at : ℕ) (before x y : List ℕ) (r s : ℕ) → Puts piece at before x r → Puts piece at before y s → (r ≡ s) × (x ≡ y)
 puts_settled piece at before x y r s p q = (p.next ∙ sym q.next, p.bytes ∙ sym q.bytes)
+
+-- one byte stored
+pub puts_byte : (byte at : ℕ) (before : List ℕ) → HasRoom (byte ∷ []) at before → Puts (byte ∷ []) at before (set before at byte) (at + 1)
+puts_byte byte at before h = record { next = refl; bytes = set_split before at byte (omega arith) ∙ rw add-one }
 
 -- no byte
 pub puts_none : (at : ℕ) (before : List ℕ) → Puts [] at before before at
@@ -53,3 +58,23 @@ module _ (whole p q : List ℕ) (e : whole ≡ p ++ q) (at : ℕ) (a : List ℕ)
           next = omega (arith, first.next, second.next, long);
           bytes = second.bytes ∙ ap₂ (laid q) first.next first.bytes ∙ laid_twice;
         }
+
+-- ---- the bytes of a piece one by one
+
+module _ (piece : List ℕ) (at i : ℕ) (a b : List ℕ) (room : HasRoom piece at a) (more : i < length piece) (so_far : Puts (take i piece) at a b (at + i)) where
+  one_more : take (i + 1) piece ≡ take i piece ++ (get_or piece i 0 ∷ [])
+  one_more = rw add-one (take-suc piece i 0 more)
+
+  beginning : HasRoom (take (i + 1) piece) at a
+  beginning = rw length-take (omega arith)
+
+  byte_room : HasRoom (get_or piece i 0 ∷ []) (at + i) b
+  byte_room = room_back (take (i + 1) piece) (take i piece) (get_or piece i 0 ∷ []) one_more at a beginning b (at + i) so_far
+
+  pub next_room : at + i < length b
+  next_room = omega (arith, byte_room)
+
+  pub puts_next : Puts (take (i + 1) piece) at a (set b (at + i) (get_or piece i 0)) (at + (i + 1))
+  puts_next =
+      let e : at + i + 1 ≡ at + (i + 1) = omega arith in
+      rw (← e) (puts_then (take (i + 1) piece) (take i piece) (get_or piece i 0 ∷ []) one_more at a beginning b (at + i) so_far _ (at + i + 1) (puts_byte (get_or piece i 0) (at + i) b byte_room))

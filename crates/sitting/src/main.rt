@@ -3,7 +3,8 @@
 
 use answering::answer_stream;
 
-// Reads, lends and writes: what is printed is the answer to all of standard input (judgement/specs/Prints `PrintsInput`).
+// Lends the store, all zero at the start: what is printed is the answer to all of standard input (judgement/specs/Prints `PrintsInput`).
 fn main(rt: HostRuntime) {
-    answer_stream(&mut rt.stdin(), &mut rt.stdout());
+    let mut store = [0u32; 8192];
+    answer_stream(&mut rt.stdin(), &mut rt.stdout(), &mut store);
 }

@@ -43,12 +43,7 @@ pub fn weigh(logs: LentLogs, held: Held, desk: Desk, kept: &mut [u8]) -> Least
     ensures { Weighs desk held.entry.n held.entry.numbers.now kept.old kept.new result }
 {
     let costs = estimate::costs_of(logs, desk.weight, desk.symbols, desk.n, desk.m);
-    let walk = Walk {
-        logs,
-        held,
-        desk,
-        costs,
-    };
+    let walk = Walk { held, desk, costs };
     let key = desk.number * DESK_SPAN;
     let root = Context {
         key,
@@ -57,7 +52,7 @@ pub fn weigh(logs: LentLogs, held: Held, desk: Desk, kept: &mut [u8]) -> Least
     };
     let at = held.place_of(key);
     let w = if held.stands(at, key) {
-        walk.visit(kept, root, at)
+        walk.visit(logs, kept, root, at)
     } else {
         as_leaf(costs, at)
     };
@@ -153,10 +148,10 @@ fn choice_in(number: u8) -> Choice
     }
 }
 
-// What stays the same all through a walk: the logarithms that are lent, the records in use, the desk, and what a context of each kind costs.
+// What stays the same all through a walk: the records in use, the desk, and what a context of each kind costs. The logarithms that are lent go beside it: where
+// a walk kept them, the library for C copied them by a `memcpy` from outside.
 #[derive(Clone, Copy)]
 struct Walk<'a> {
-    logs: LentLogs<'a>,
     held: Held<'a>,
     desk: Desk,
     costs: ByKind,
@@ -165,11 +160,11 @@ struct Walk<'a> {
 impl Walk<'_> {
     // The trees at a held context, whose place the walk has come to. A child that is not held is answered without a call.
     // The decision at each record of the context's block is kept beside it.
-    fn visit(&self, kept: &mut [u8], here: Context, at: usize) -> Weighed
+    fn visit(&self, logs: LentLogs, kept: &mut [u8], here: Context, at: usize) -> Weighed
         requires { CanVisit self.now.desk self.now.costs self.now.held.n self.now.held.numbers.now kept.old here at }
         ensures { Visited self.now.desk self.now.held.n self.now.held.numbers.now (context_of here.key) here.left at kept.old kept.new result }
     {
-        let own = self.losses_at(at);
+        let own = self.losses_at(logs, at);
         if here.left == 0 {
             return leaf_here(kept, at, own);
         }
@@ -181,7 +176,7 @@ impl Walk<'_> {
             if self.held.stands(next, key) {
                 let left = here.left - 1;
                 let child = Context { key, span, left };
-                children = and_child(children, self.visit(kept, child, next));
+                children = and_child(children, self.visit(logs, kept, child, next));
             } else {
                 children = and_unseen(children, self.costs);
             }
@@ -191,15 +186,11 @@ impl Walk<'_> {
     }
 
     // The losses of the context of the record at a place.
-    fn losses_at(&self, at: usize) -> ByKind
+    fn losses_at(&self, logs: LentLogs, at: usize) -> ByKind
         requires { Countable self.now.held.numbers.now at self.now.costs }
         ensures { LossesOf (count_table (record_at at self.now.held.numbers.now)) self.now.costs result }
     {
-        estimate::losses_of(
-            self.logs,
-            records::counts_at(self.held.numbers, at),
-            self.costs,
-        )
+        estimate::losses_of(logs, records::counts_at(self.held.numbers, at), self.costs)
     }
 }
 
