@@ -37,10 +37,11 @@ class Threads(unittest.TestCase):
 
     def test_four_desks_of_one_store(self):
         """Each report is the one that its sitting has in a store of its own."""
-        store, end = Store(ROOM), time.monotonic() + SECONDS
+        store, begin = Store(ROOM), Barrier(DESKS)
 
         def sit(desk):
-            place = 0
+            begin.wait()  # the seconds are counted from when all threads are there, so that none comes too late for its first sitting
+            end, place = time.monotonic() + SECONDS, 0
             while time.monotonic() < end:
                 seed = f"{desk} {place}"
                 self.assertEqual(sitting(store, desk, Random(seed)), sitting(Store(ROOM), desk, Random(seed)))

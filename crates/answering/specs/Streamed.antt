@@ -15,5 +15,5 @@ pub record AnswersStream (input input' output output' : Option (List ℕ)) (stor
   pub taken : Consumes input input' file
   -- where all of it could be written: its text, and nothing else
   pub told : whole ≡ true → Appends output output' (text_of (judgement file sheet_numbers))
-  -- the store: as it was where the reader refuses the file, else for the room with the file's feeds
+  -- the store: as it was where `read_of` refuses the file, else for the room with the file's feeds, up to the first refused
   pub numbers : StoreAfter file (read_of file) store store'
